@@ -1,0 +1,2 @@
+-- What the C interface's answers say.
+pub mod Outcomes

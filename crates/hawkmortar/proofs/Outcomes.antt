@@ -1,0 +1,11 @@
+-- A hop goes out as it is: 0 can be none of a lookup's hops, and stands for none.
+use Prim.Native.Nat.{ℕ, zero, suc}
+use mathlib.Core.Path.{_≡_, refl}
+use mathlib.Core.Bool.{cond}
+use lib.Dec.{eqb, eqb·suc-zero}
+use Rattle.route.specs.Refusals.{value, refused}
+use Rattle.hawkmortar.specs.Outcomes.{outcome}
+
+pub hop-outcome : (h : ℕ) → outcome (value h) ≡ outcome (cond (eqb h 0) (refused 0 0) (value h))
+hop-outcome zero = refl
+hop-outcome (suc h) = rw eqb·suc-zero

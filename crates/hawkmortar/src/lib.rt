@@ -1,0 +1,74 @@
+// The C interface. Every call answers one `Outcome`: refusal 0 and the value, or the refusal's
+// number and its place. A slice is a pointer, then a length in elements. Each export's contract is
+// that of the call under it, through the definition `outcome`; include/hawkmortar.h declares them.
+ghost use mathlib.Core.Path.{_≡_};
+ghost use Rattle.hawkmortar.specs.Outcomes.{outcome};
+ghost use Rattle.route.specs.Refusals.{Answer};
+ghost use Rattle.route.specs.Shown.{number, place, counted, shown};
+ghost use Rattle.route.specs.Lists.{listCheck, listLookup};
+use route::Counted;
+use route::Found;
+use route::Refusal;
+
+#[repr(C)]
+pub struct Outcome {
+    pub refusal: u64,
+    pub value: u64,
+}
+
+// Tests a list; the value is the number of entries.
+#[no_mangle]
+pub extern "C" fn hawkmortar_list_check(addresses: &[u32], lengths: &[u32], hops: &[u32]) -> Outcome
+    ensures { λ r. ⌜ r ≡ outcome (listCheck 32 (now (addresses .entry)) (now (lengths .entry)) (now (hops .entry))) ⌝ }
+{
+    of_counted(route::list::check(addresses, lengths, hops))
+}
+
+// Looks q up in a list; the value is the next hop, 0 for none.
+#[no_mangle]
+pub extern "C" fn hawkmortar_list_lookup(
+    addresses: &[u32],
+    lengths: &[u32],
+    hops: &[u32],
+    q: u32,
+) -> Outcome
+    ensures { λ r. ⌜ r ≡ outcome (listLookup 32 (now (addresses .entry)) (now (lengths .entry)) (now (hops .entry)) q) ⌝ }
+{
+    of_found(route::list::lookup(addresses, lengths, hops, q))
+}
+
+fn accepted(value: u64) -> Outcome
+    ensures { λ o. ⌜ o ≡ outcome (Answer.value value) ⌝ }
+{
+    Outcome { refusal: 0, value }
+}
+
+fn refused(r: Refusal) -> Outcome
+    ensures { λ o. ⌜ o ≡ outcome (Answer.refused (number r) (place r)) ⌝ }
+{
+    let number = r.number() as u64;
+    let place = r.place() as u64;
+    Outcome {
+        refusal: number,
+        value: place,
+    }
+}
+
+fn of_counted(c: Counted) -> Outcome
+    ensures { λ o. ⌜ o ≡ outcome (counted c) ⌝ }
+{
+    match c {
+        Counted::Count(n) => accepted(n as u64),
+        Counted::Refused(r) => refused(r),
+    }
+}
+
+fn of_found(f: Found) -> Outcome
+    ensures { λ o. ⌜ o ≡ outcome (shown f) ⌝ }
+{
+    match f {
+        Found::Nothing => accepted(0),
+        Found::Via(h) => accepted(h.0 as u64),
+        Found::Refused(r) => refused(r),
+    }
+}

@@ -1,0 +1,13 @@
+-- Tests and verdicts, members of a list.
+pub mod Tests
+pub mod Members
+-- Routes: spans, the longest match, which lists are accepted.
+pub mod Spans
+pub mod RouteSet
+pub mod LongestMatch
+pub mod Accepted
+pub mod Lookups
+-- The code's answers, and its loops.
+pub mod Determined
+pub mod Searches
+pub mod Entries

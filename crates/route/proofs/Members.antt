@@ -1,0 +1,17 @@
+-- Members of a list: one that passes a test, none that does, what holds of each.
+use mathlib.Core.Path.{_≡_, refl, subst⁻¹}
+use mathlib.Core.Bool.{Bool, true, false, or-true}
+use mathlib.Core.List.{List, [], _∷_, List·Memᴰ, List·Memᴰ·head, List·Memᴰ·tail}
+use Rattle.route.specs.RightHop.{_∈_}
+use Rattle.route.specs.Lists.{any}
+use Rattle.route.proofs.Tests.{neither}
+
+module _ {A : Type 0} where
+  pub any-so : (p : A → Bool) {x : A} {xs : List A} → x ∈ xs → p x ≡ true → any p xs ≡ true
+  any-so p (List·Memᴰ·head e) h = let h′ = rw e at h in rw h′
+  any-so p (List·Memᴰ·tail {x = x} m) h = rw (any-so p m h) (or-true (p x))
+
+  -- of the first member and of the others, so of all
+  pub eachOf : {P : A → Type 0} (x : A) (xs : List A) → P x → ((y : A) → y ∈ xs → P y) → (y : A) → y ∈ (x ∷ xs) → P y
+  eachOf {P} x xs h k y (List·Memᴰ·head e) = subst⁻¹ P e h
+  eachOf x xs h k y (List·Memᴰ·tail m) = k y m

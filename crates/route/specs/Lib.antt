@@ -1,0 +1,10 @@
+-- The rule and its limits, refusals and answers, lists of routes, what a right answer is.
+pub mod Limits
+pub mod Rule
+pub mod Refusals
+pub mod Lists
+pub mod RightHop
+pub mod RowsOfSet
+-- The paper's numbers for the code's enums, and what only loops need.
+pub mod Shown
+pub mod Loops

@@ -1,0 +1,145 @@
+// The plain answer over a lent list: rows of addresses, lengths and hops, in any order.
+//
+// A list is tested whole before it answers: its size, then entry by entry the entry's own numbers
+// and whether an earlier entry has its prefix. The longest match is found from the list's end.
+ghost use mathlib.Core.Path.{_≡_};
+ghost use Prim.Native.Nat.{_<_};
+ghost use mathlib.Core.List.{[]};
+ghost use lib.ListN.{length};
+ghost use Rattle.route.specs.Rule.{route, improved, longest};
+ghost use Rattle.route.specs.Lists.{routes, samePrefix, listFault, listCheck, listLookup, EqualRows};
+ghost use Rattle.route.specs.Shown.{routeOf, verdictOf, counted, shown};
+ghost use Rattle.route.specs.Loops.{routeAt, matchOf};
+use crate::Check;
+use crate::Counted;
+use crate::Found;
+use crate::Hop;
+use crate::Length;
+use crate::MAX_ROUTES;
+use crate::Prefix;
+use crate::Refusal;
+use crate::rule;
+
+// The longest match so far.
+pub enum Best {
+    Nowhere,
+    At(Prefix),
+}
+
+// Tests a list: the number of entries, or refusal 8 for unequal rows or more than 4,096 entries,
+// then entry by entry 1, 2, 3 of the entry and 4 where an earlier entry has its prefix.
+pub fn check(addresses: &[u32], lengths: &[u32], hops: &[u32]) -> Counted
+    ensures { λ r. ⌜ counted r ≡ listCheck 32 (now (addresses .entry)) (now (lengths .entry)) (now (hops .entry)) ⌝ }
+{
+    let n = addresses.len();
+    if n != lengths.len() {
+        return Counted::Refused(Refusal::Size);
+    }
+    if n != hops.len() {
+        return Counted::Refused(Refusal::Size);
+    }
+    if MAX_ROUTES < n {
+        return Counted::Refused(Refusal::Size);
+    }
+    match entries_check(addresses, lengths, hops) {
+        Check::Fault(f) => Counted::Refused(f),
+        Check::Fine => Counted::Count(n),
+    }
+}
+
+// The next hop of the longest prefix that matches q; refusals as of `check`.
+pub fn lookup(addresses: &[u32], lengths: &[u32], hops: &[u32], q: u32) -> Found
+    ensures { λ r. ⌜ shown r ≡ listLookup 32 (now (addresses .entry)) (now (lengths .entry)) (now (hops .entry)) q ⌝ }
+{
+    match check(addresses, lengths, hops) {
+        Counted::Refused(f) => Found::Refused(f),
+        Counted::Count(_) => match longest_match(addresses, lengths, hops, q) {
+            Best::Nowhere => Found::Nothing,
+            Best::At(p) => {
+                let hop = p.hop;
+                Found::Via(hop)
+            }
+        },
+    }
+}
+
+// Entry i of the rows.
+fn entry_at(addresses: &[u32], lengths: &[u32], hops: &[u32], i: usize) -> Prefix
+    requires { ⌜ EqualRows (now addresses) (now lengths) (now hops) ⌝ }
+    requires { ⌜ i < length (now addresses) ⌝ }
+    ensures { λ r. ⌜ routeOf r ≡ routeAt (now (addresses .entry)) (now (lengths .entry)) (now (hops .entry)) i ⌝ }
+{
+    Prefix {
+        address: addresses[i],
+        length: Length(lengths[i]),
+        hop: Hop(hops[i]),
+    }
+}
+
+// Whether the prefix is address/length.
+fn has_prefix(p: Prefix, address: u32, length: u32) -> bool
+    ensures { λ r. ⌜ r ≡ samePrefix (routeOf p) (route address length 0) ⌝ }
+{
+    (p.address == address) & (p.length.0 == length)
+}
+
+// Entry by entry the refusals 1 to 4.
+fn entries_check(addresses: &[u32], lengths: &[u32], hops: &[u32]) -> Check
+    requires { ⌜ EqualRows (now addresses) (now lengths) (now hops) ⌝ }
+    ensures { λ r. ⌜ verdictOf r ≡ listFault 32 0 [] (routes (now (addresses .entry)) (now (lengths .entry)) (now (hops .entry))) ⌝ }
+{
+    let mut i = 0;
+    'entries: while i < addresses.len() {
+        let p = entry_at(addresses, lengths, hops, i);
+        let checked = rule::entry_check(i, p);
+        if let Check::Fault(f) = checked {
+            return Check::Fault(f);
+        }
+        let mut j = 0;
+        while j < i {
+            if has_prefix(p, addresses[j], lengths[j]) {
+                break 'entries;
+            }
+            j += 1;
+        }
+        i += 1;
+    }
+    if i < addresses.len() {
+        return Check::Fault(Refusal::Twice(i));
+    }
+    Check::Fine
+}
+
+// The longest match of the entries after this one, or this one where it matches and is longer.
+fn improve(m: Best, hit: bool, p: Prefix) -> Best
+    ensures { λ r. ⌜ matchOf r ≡ improved hit (routeOf p) (matchOf m) ⌝ }
+{
+    if !hit {
+        return m;
+    }
+    match m {
+        Best::Nowhere => Best::At(p),
+        Best::At(o) => {
+            if o.length.0 < p.length.0 {
+                Best::At(p)
+            } else {
+                Best::At(o)
+            }
+        }
+    }
+}
+
+// The longest match, found from the list's end.
+fn longest_match(addresses: &[u32], lengths: &[u32], hops: &[u32], q: u32) -> Best
+    requires { ⌜ EqualRows (now addresses) (now lengths) (now hops) ⌝ }
+    ensures { λ r. ⌜ matchOf r ≡ longest 32 (routes (now (addresses .entry)) (now (lengths .entry)) (now (hops .entry))) q ⌝ }
+{
+    let mut m = Best::Nowhere;
+    let mut i = addresses.len();
+    while 0 < i {
+        i -= 1;
+        let p = entry_at(addresses, lengths, hops, i);
+        m = improve(m, rule::covers(p, q), p);
+    }
+    m
+}

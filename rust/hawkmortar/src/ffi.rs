@@ -1,0 +1,48 @@
+//! The C interface, as include/hawkmortar.h declares it, and its outcomes as results.
+
+use crate::{NextHop, Refusal};
+
+/// Refusal 0 and the value, or the refusal's number and its place.
+#[repr(C)]
+pub struct Outcome {
+    refusal: u64,
+    value: u64,
+}
+
+impl Outcome {
+    /// The value, or the refusal.
+    pub fn count(self) -> Result<usize, Refusal> {
+        let value = usize::try_from(self.value).expect("places and counts fit the machine's word");
+        match self.refusal {
+            0 => Ok(value),
+            number => Err(Refusal::from_parts(number, value).expect("the table's numbers are 1 to 13")),
+        }
+    }
+
+    /// The next hop, where 0 is none, or the refusal.
+    pub fn hop(self) -> Result<Option<NextHop>, Refusal> {
+        self.count()
+            .map(|hop| NextHop::new(u16::try_from(hop).expect("a hop is at most 65,535")))
+    }
+}
+
+extern "C" {
+    pub fn hawkmortar_list_check(
+        addresses: *const u32,
+        addresses_len: usize,
+        lengths: *const u32,
+        lengths_len: usize,
+        hops: *const u32,
+        hops_len: usize,
+    ) -> Outcome;
+
+    pub fn hawkmortar_list_lookup(
+        addresses: *const u32,
+        addresses_len: usize,
+        lengths: *const u32,
+        lengths_len: usize,
+        hops: *const u32,
+        hops_len: usize,
+        q: u32,
+    ) -> Outcome;
+}

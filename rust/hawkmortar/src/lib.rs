@@ -1,0 +1,59 @@
+//! Route tables for access routers: a safe interface to the proved library.
+//!
+//! The library is written in Rattle, where each function is proved to meet its contract. This crate declares its C interface and
+//! turns outcomes into Rust's own types: an accepted lookup is `Ok(Some(hop))`, or `Ok(None)` where no prefix matches; a refused
+//! call is `Err(Refusal)`, with the refusal's number and place as docs/SPECIFICATION.md lists them.
+//!
+//! ```
+//! use hawkmortar::{list, NextHop, Refusal};
+//! use std::net::Ipv4Addr;
+//!
+//! let addresses = [Ipv4Addr::new(10, 0, 0, 0).into(), Ipv4Addr::new(10, 20, 0, 0).into()];
+//! let lengths = [8, 16];
+//! let hops = [1, 2];
+//!
+//! let q = Ipv4Addr::new(10, 20, 5, 0);
+//! assert_eq!(list::lookup(&addresses, &lengths, &hops, q), Ok(NextHop::new(2)));
+//! assert_eq!(list::lookup(&addresses, &lengths, &hops, Ipv4Addr::new(11, 0, 0, 0)), Ok(None));
+//!
+//! // 10.20.0.0/8 is no prefix: its address is not a multiple of 2^24
+//! assert_eq!(list::check(&addresses, &[8, 8], &hops), Err(Refusal::Address(1)));
+//! ```
+#![warn(missing_docs)]
+
+mod ffi;
+pub mod list;
+mod refusal;
+
+pub use refusal::Refusal;
+
+use std::fmt;
+use std::num::NonZeroU16;
+
+/// The most entries of a list.
+pub const MAX_ROUTES: usize = 4096;
+
+/// A next hop: a number from 1 to 65,535.
+#[derive(Clone, Copy, PartialEq, Eq, PartialOrd, Ord, Hash, Debug)]
+pub struct NextHop(NonZeroU16);
+
+impl NextHop {
+    /// The next hop with this number; 0 is none.
+    pub const fn new(number: u16) -> Option<Self> {
+        match NonZeroU16::new(number) {
+            Some(number) => Some(NextHop(number)),
+            None => None,
+        }
+    }
+
+    /// The hop's number.
+    pub const fn get(self) -> u16 {
+        self.0.get()
+    }
+}
+
+impl fmt::Display for NextHop {
+    fn fmt(&self, f: &mut fmt::Formatter<'_>) -> fmt::Result {
+        self.0.fmt(f)
+    }
+}

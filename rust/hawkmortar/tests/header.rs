@@ -1,0 +1,32 @@
+//! The C header declares what the library has: a C program over it compiles without a warning, links and answers.
+
+use std::env;
+use std::path::{Path, PathBuf};
+use std::process::Command;
+
+#[test]
+fn a_c_program_over_the_header_answers_the_board() {
+    let here = Path::new(env!("CARGO_MANIFEST_DIR"));
+    let archive = match env::var_os("HAWKMORTAR_LIB_DIR") {
+        Some(folder) => PathBuf::from(folder),
+        None => here.join("../../target/staticlib"),
+    };
+    let program = Path::new(env!("CARGO_TARGET_TMPDIR")).join("board");
+    let compiled = Command::new(env::var_os("CC").unwrap_or("cc".into()))
+        .args(["-std=c99", "-Wall", "-Wextra", "-Wpedantic", "-Werror", "-I"])
+        .arg(here.join("../../include"))
+        .arg(here.join("examples/board.c"))
+        .arg(archive.join("libhawkmortar.a"))
+        .arg("-o")
+        .arg(&program)
+        .output()
+        .expect("a C compiler");
+    assert!(
+        compiled.status.success(),
+        "{}",
+        String::from_utf8_lossy(&compiled.stderr)
+    );
+    let ran = Command::new(&program).output().expect("the program runs");
+    assert!(ran.status.success());
+    assert_eq!(String::from_utf8_lossy(&ran.stdout), "0 2\n0 3\n0 2\n0 7\n4 1\n");
+}

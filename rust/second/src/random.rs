@@ -1,0 +1,105 @@
+//! Random lists, the same in every run.
+
+/// A generator of 64-bit numbers (SplitMix64).
+pub struct Random(u64);
+
+impl Random {
+    /// The generator of a seed.
+    pub fn new(seed: u64) -> Self {
+        Random(seed)
+    }
+
+    /// The next number.
+    pub fn next(&mut self) -> u64 {
+        self.0 = self.0.wrapping_add(0x9e37_79b9_7f4a_7c15);
+        let mut z = self.0;
+        z = (z ^ (z >> 30)).wrapping_mul(0xbf58_476d_1ce4_e5b9);
+        z = (z ^ (z >> 27)).wrapping_mul(0x94d0_49bb_1331_11eb);
+        z ^ (z >> 31)
+    }
+
+    /// A number below `bound`, which is not 0.
+    pub fn below(&mut self, bound: u64) -> u64 {
+        self.next() % bound
+    }
+
+    /// One of some values.
+    pub fn pick<T: Copy>(&mut self, values: &[T]) -> T {
+        values[self.below(values.len() as u64) as usize]
+    }
+
+    /// Whether one chance in `n` came up.
+    pub fn one_in(&mut self, n: u64) -> bool {
+        self.below(n) == 0
+    }
+}
+
+/// The three rows of a list.
+#[derive(Clone, Default, Debug)]
+pub struct Rows {
+    /// The prefixes' addresses.
+    pub addresses: Vec<u32>,
+    /// Their lengths.
+    pub lengths: Vec<u32>,
+    /// Their next hops.
+    pub hops: Vec<u32>,
+}
+
+impl Rows {
+    /// One entry more.
+    pub fn push(&mut self, address: u32, length: u32, hop: u32) {
+        self.addresses.push(address);
+        self.lengths.push(length);
+        self.hops.push(hop);
+    }
+
+    /// A list of so many distinct valid prefixes, whose addresses have no bit outside `mask`: with a sparse mask many of them lie
+    /// inside each other. The mask has to leave enough prefixes.
+    pub fn valid(random: &mut Random, entries: usize, mask: u32) -> Self {
+        let mut rows = Rows::default();
+        let mut seen = std::collections::HashSet::new();
+        while rows.addresses.len() < entries {
+            let length = random.below(33) as u32;
+            let bits = random.next() as u32 & mask;
+            let address = (u64::from(bits) >> (32 - length) << (32 - length)) as u32;
+            if seen.insert((address, length)) {
+                let hop = if random.one_in(8) {
+                    random.pick(&[1, 65_535])
+                } else {
+                    1 + random.below(300) as u32
+                };
+                rows.push(address, length, hop);
+            }
+        }
+        rows
+    }
+
+    /// Changes one number or one row's length, so that most results are to be refused.
+    pub fn damage(&mut self, random: &mut Random) {
+        let n = self.addresses.len().min(self.lengths.len()).min(self.hops.len());
+        if n == 0 || random.one_in(12) {
+            let row = match random.below(3) {
+                0 => &mut self.addresses,
+                1 => &mut self.lengths,
+                _ => &mut self.hops,
+            };
+            if n == 0 || random.one_in(2) {
+                row.push(1);
+            } else {
+                row.pop();
+            }
+            return;
+        }
+        let i = random.below(n as u64) as usize;
+        match random.below(5) {
+            0 => self.lengths[i] = random.pick(&[0, 31, 32, 33, 34, 255, u32::MAX]),
+            1 => self.addresses[i] ^= 1 << random.below(32),
+            2 => self.hops[i] = random.pick(&[0, 1, 65_535, 65_536, u32::MAX]),
+            _ => {
+                let j = random.below(n as u64) as usize;
+                self.addresses[i] = self.addresses[j];
+                self.lengths[i] = self.lengths[j];
+            }
+        }
+    }
+}

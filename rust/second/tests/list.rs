@@ -1,0 +1,219 @@
+//! The list calls of the library and of the second program, compared.
+
+use hawkmortar::{list as proved, NextHop, Refusal};
+use second::list as plain;
+use second::random::{Random, Rows};
+use second::{ip, Fault};
+
+fn fault(refusal: Refusal) -> Fault {
+    (refusal.number(), refusal.place())
+}
+
+fn check(rows: &Rows) -> Result<usize, Fault> {
+    proved::check(&rows.addresses, &rows.lengths, &rows.hops).map_err(fault)
+}
+
+fn lookup(rows: &Rows, q: u32) -> Result<u32, Fault> {
+    proved::lookup(&rows.addresses, &rows.lengths, &rows.hops, q)
+        .map(|hop| hop.map_or(0, |hop| hop.get().into()))
+        .map_err(fault)
+}
+
+/// Both programs test the list alike, and answer each key alike.
+fn same(rows: &Rows, keys: impl IntoIterator<Item = u32>) {
+    let expected = plain::check(&rows.addresses, &rows.lengths, &rows.hops);
+    assert_eq!(check(rows), expected, "{rows:?}");
+    for q in keys {
+        let expected = expected.map(|_| plain::answer(&rows.addresses, &rows.lengths, &rows.hops, q));
+        assert_eq!(lookup(rows, q), expected, "{q} in {rows:?}");
+    }
+}
+
+/// Each prefix's first and last address and those one beyond, from entry `first` on in steps.
+fn edges(rows: &Rows, first: usize, step: usize) -> Vec<u32> {
+    let mut keys = vec![0, u32::MAX];
+    for (&address, &length) in rows.addresses.iter().zip(&rows.lengths).skip(first).step_by(step) {
+        let (first, last) = plain::bounds(address, length.min(32));
+        keys.extend([first, last, first.wrapping_sub(1), last.wrapping_add(1)]);
+    }
+    keys
+}
+
+/// The board's set P.
+fn set_p() -> Rows {
+    let mut rows = Rows::default();
+    rows.push(ip([10, 0, 0, 0]), 8, 1);
+    rows.push(ip([10, 20, 0, 0]), 16, 2);
+    rows.push(ip([10, 20, 4, 0]), 24, 3);
+    rows.push(ip([10, 20, 4, 9]), 32, 2);
+    rows.push(0, 0, 7);
+    rows
+}
+
+fn one(address: u32, length: u32, hop: u32) -> Rows {
+    let mut rows = Rows::default();
+    rows.push(address, length, hop);
+    rows
+}
+
+#[test]
+fn board_cases_a_to_e() {
+    let mut rows = set_p();
+    assert_eq!(lookup(&rows, ip([10, 20, 4, 9])), Ok(2));
+    assert_eq!(lookup(&rows, ip([10, 20, 4, 10])), Ok(3));
+    assert_eq!(lookup(&rows, ip([10, 20, 5, 0])), Ok(2));
+    assert_eq!(lookup(&rows, ip([255, 255, 255, 255])), Ok(7));
+    same(&rows, edges(&rows, 0, 1));
+    rows.addresses.pop();
+    rows.lengths.pop();
+    rows.hops.pop();
+    assert_eq!(lookup(&rows, ip([11, 0, 0, 0])), Ok(0));
+    same(&rows, edges(&rows, 0, 1));
+}
+
+#[test]
+fn limits_of_lengths_and_hops() {
+    assert_eq!(lookup(&one(7, 32, 1), 7), Ok(1));
+    assert_eq!(lookup(&one(7, 32, 1), 8), Ok(0));
+    assert_eq!(lookup(&one(7, 33, 1), 7), Err((1, 0)));
+    assert_eq!(lookup(&one(0, u32::MAX, 1), 7), Err((1, 0)));
+    assert_eq!(lookup(&one(0, 0, 1), u32::MAX), Ok(1));
+    assert_eq!(lookup(&one(0, 0, 0), 7), Err((3, 0)));
+    assert_eq!(lookup(&one(0, 0, 65_535), 7), Ok(65_535));
+    assert_eq!(lookup(&one(0, 0, 65_536), 7), Err((3, 0)));
+    assert_eq!(lookup(&one(0, 0, u32::MAX), 7), Err((3, 0)));
+    assert_eq!(lookup(&one(1 << 31, 0, 1), 7), Err((2, 0)));
+    assert_eq!(lookup(&one(1 << 31, 1, 1), u32::MAX), Ok(1));
+}
+
+#[test]
+fn limits_of_the_list() {
+    let mut rows = Rows::default();
+    assert_eq!(check(&rows), Ok(0));
+    assert_eq!(lookup(&rows, 7), Ok(0));
+    for i in 0..4096 {
+        rows.push(i << 8, 24, i + 1);
+    }
+    assert_eq!(check(&rows), Ok(4096));
+    assert_eq!(lookup(&rows, 4095 << 8), Ok(4096));
+    rows.push(4096 << 8, 24, 4097);
+    assert_eq!(check(&rows), Err((8, 0)));
+    assert_eq!(lookup(&rows, 0), Err((8, 0)));
+    for row in 0..3 {
+        for extra in [0, 2] {
+            let mut rows = set_p();
+            let row = [&mut rows.addresses, &mut rows.lengths, &mut rows.hops]
+                .into_iter()
+                .nth(row)
+                .unwrap();
+            row.resize(4 + extra, 1);
+            assert_eq!(check(&rows), Err((8, 0)));
+            assert_eq!(lookup(&rows, 7), Err((8, 0)));
+        }
+    }
+}
+
+#[test]
+fn each_refusal_at_each_place() {
+    let good = set_p();
+    for place in 0..5 {
+        for (change, number) in [(0, 1), (1, 2), (2, 3), (3, 3)] {
+            let mut rows = good.clone();
+            match change {
+                0 => rows.lengths[place] = 33,
+                1 => {
+                    rows.addresses[place] |= 1;
+                    rows.lengths[place] = 31;
+                }
+                2 => rows.hops[place] = 0,
+                _ => rows.hops[place] = 65_536,
+            }
+            // the /32 of the board has an odd address already
+            assert_eq!(check(&rows), Err((number, place)));
+            assert_eq!(lookup(&rows, 7), Err((number, place)));
+        }
+        for earlier in 0..place {
+            for hop in [good.hops[earlier], 9] {
+                let mut rows = good.clone();
+                rows.addresses[place] = rows.addresses[earlier];
+                rows.lengths[place] = rows.lengths[earlier];
+                rows.hops[place] = hop;
+                assert_eq!(check(&rows), Err((4, place)));
+                assert_eq!(lookup(&rows, 7), Err((4, place)));
+            }
+        }
+    }
+}
+
+#[test]
+fn refusals_come_in_their_order() {
+    // of one entry 1 before 2 before 3 before 4
+    assert_eq!(check(&one(1, 33, 0)), Err((1, 0)));
+    assert_eq!(check(&one(1, 24, 0)), Err((2, 0)));
+    let mut rows = one(0, 24, 1);
+    rows.push(0, 24, 0);
+    assert_eq!(check(&rows), Err((3, 1)));
+    // an entry is refused before the next is looked at
+    rows.push(0, 33, 1);
+    rows.hops[1] = 1;
+    assert_eq!(check(&rows), Err((4, 1)));
+    // the size before any entry
+    rows.hops.pop();
+    assert_eq!(check(&rows), Err((8, 0)));
+}
+
+#[test]
+fn no_match_is_no_hop() {
+    let rows = one(ip([10, 0, 0, 0]), 8, 5);
+    let found = proved::lookup(&rows.addresses, &rows.lengths, &rows.hops, ip([11, 0, 0, 0]));
+    assert_eq!(found, Ok(None));
+    let found = proved::lookup(&rows.addresses, &rows.lengths, &rows.hops, ip([10, 9, 9, 9]));
+    assert_eq!(found, Ok(NextHop::new(5)));
+}
+
+#[test]
+fn random_small_lists() {
+    let mut random = Random::new(1);
+    let (mut accepted, mut refused) = (0, [0; 9]);
+    for round in 0..100_000 {
+        let entries = random.below(12) as usize;
+        let mut rows = Rows::valid(
+            &mut random,
+            entries,
+            if round % 3 == 0 { u32::MAX } else { 0x8180_c0e0 },
+        );
+        for _ in 0..random.below(4) {
+            rows.damage(&mut random);
+        }
+        match check(&rows) {
+            Ok(_) => accepted += 1,
+            Err((number, _)) => refused[usize::from(number)] += 1,
+        }
+        let mut keys = edges(&rows, 0, 1);
+        keys.push(random.next() as u32);
+        same(&rows, keys);
+    }
+    // the lists are of every kind
+    for number in [1, 2, 3, 4, 8] {
+        assert!(refused[number] > 1000, "{refused:?}");
+    }
+    assert!(accepted > 20_000, "{accepted}");
+}
+
+/// On each of 50 lists the edges of another fiftieth of the prefixes; then one fault somewhere.
+#[test]
+fn random_lists_of_4096() {
+    let mut random = Random::new(2);
+    for round in 0..50 {
+        let mut rows = Rows::valid(&mut random, 4096, u32::MAX);
+        same(&rows, edges(&rows, round, 50));
+        rows.damage(&mut random);
+        same(&rows, [0]);
+    }
+}
+
+#[test]
+fn every_edge_of_a_list_of_4096() {
+    let rows = Rows::valid(&mut Random::new(3), 4096, 0xf0f0_f0f0);
+    same(&rows, edges(&rows, 0, 1));
+}
