@@ -5,6 +5,6 @@ pub mod Refusals
 pub mod Lists
 pub mod RightHop
 pub mod RowsOfSet
--- The paper's numbers for the code's enums, and what only loops need.
+-- What the code's enums show, and what only loops need.
 pub mod Shown
 pub mod Loops

@@ -1,4 +1,4 @@
--- The paper's numbers for the code's types: a refusal's number and place, what an answer shows, the route of a prefix.
+-- The specification's numbers for the code's types: a refusal's number and place, what an answer shows, the route of a prefix.
 --
 -- What is shown tells any two answers apart (proofs/Determined), so that a contract which fixes what is shown fixes the value.
 use Prim.Native.Nat.{ℕ}
@@ -61,7 +61,7 @@ abbrev pub counted : Counted → Answer
 counted (Count n) = value n
 counted (NotCounted r) = refused (number r) (place r)
 
--- no hop is 0: `Via` 0 is none of the paper's answers
+-- no hop is 0: `Via` 0 is no answer of the specification's
 abbrev pub shown : Found → Answer
 shown Nothing = value 0
 shown (Via h) = cond (eqb (h .0) 0) (refused 0 0) (value (h .0))

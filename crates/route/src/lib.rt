@@ -2,8 +2,8 @@
 //
 // A slot number, a next-hop number and a prefix length are small numbers of three sorts. Each is a
 // struct of its own, so that no call takes one for another. A call answers an enum of its own; the
-// definitions of specs/Shown give the papers' number and place for each case, and every contract
-// goes through them.
+// definitions of specs/Shown give the number and the place for each case, and every contract goes
+// through them.
 //
 // Where no prefix matches there is no next hop. That is a case, `Found::Nothing`, and never a hop.
 pub mod list;
@@ -35,7 +35,7 @@ pub struct Prefix {
     pub hop: Hop,
 }
 
-// Why a call is refused, by document 01's table: a case for each number from 1 to 13, with the
+// Why a call is refused: a case for each number of the table in docs/SPECIFICATION.md, with the
 // place where the fault has one.
 pub enum Refusal {
     Length(usize),
@@ -85,7 +85,7 @@ impl Check {
 }
 
 impl Refusal {
-    // The refusal's number in document 01's table.
+    // The refusal's number in the table.
     pub fn number(self) -> u32
         ensures { λ r. ⌜ r ≡ number self ⌝ }
     {

@@ -21,7 +21,7 @@ use crate::Refusal;
 use crate::rule;
 
 // The longest match so far.
-pub enum Best {
+enum Best {
     Nowhere,
     At(Prefix),
 }
@@ -77,10 +77,10 @@ fn entry_at(addresses: &[u32], lengths: &[u32], hops: &[u32], i: usize) -> Prefi
 }
 
 // Whether the prefix is address/length.
-fn has_prefix(p: Prefix, address: u32, length: u32) -> bool
-    ensures { λ r. ⌜ r ≡ samePrefix (routeOf p) (route address length 0) ⌝ }
+fn has_prefix(p: Prefix, address: u32, length: Length) -> bool
+    ensures { λ r. ⌜ r ≡ samePrefix (routeOf p) (route address (length .0) 0) ⌝ }
 {
-    (p.address == address) & (p.length.0 == length)
+    (p.address == address) & (p.length.0 == length.0)
 }
 
 // Entry by entry the refusals 1 to 4.
@@ -97,7 +97,7 @@ fn entries_check(addresses: &[u32], lengths: &[u32], hops: &[u32]) -> Check
         }
         let mut j = 0;
         while j < i {
-            if has_prefix(p, addresses[j], lengths[j]) {
+            if has_prefix(p, addresses[j], Length(lengths[j])) {
                 break 'entries;
             }
             j += 1;
