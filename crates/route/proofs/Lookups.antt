@@ -1,11 +1,11 @@
 -- A lookup that tests the list first: what is refused is the list's fault, and what is found is the answer.
 use Prim.Native.Nat.{ℕ, _<_}
-use mathlib.Core.Path.{_≡_, sym, ap, _∙_}
+use mathlib.Core.Path.{_≡_, _∙_}
 use mathlib.Core.List.{List}
 use native.Mathlib.Omega.{arith}
 use borrow.Author.Tests.{ne-eqb}
-use Rattle.route.specs.Rule.{Route, Match, best, longest, hopOf}
-use Rattle.route.specs.Refusals.{Answer, value, refused, fine, unlessFault}
+use Rattle.route.specs.Rule.{Match, best, longest, hopOf}
+use Rattle.route.specs.Refusals.{value, refused, fine}
 use Rattle.route.specs.Lists.{routes, rowsFault, listCheck, listLookup}
 use Rattle.route.specs.Shown.{shown}
 use Rattle.route.specs.declared.Hop.{Hop}

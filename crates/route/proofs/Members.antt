@@ -1,10 +1,9 @@
--- Members of a list: one that passes a test, none that does, what holds of each.
-use mathlib.Core.Path.{_≡_, refl, subst⁻¹}
-use mathlib.Core.Bool.{Bool, true, false, or-true}
-use mathlib.Core.List.{List, [], _∷_, List·Memᴰ, List·Memᴰ·head, List·Memᴰ·tail}
+-- Members of a list: one that passes a test, what holds of each.
+use mathlib.Core.Path.{_≡_, subst⁻¹}
+use mathlib.Core.Bool.{Bool, true, or-true}
+use mathlib.Core.List.{List, _∷_, List·Memᴰ·head, List·Memᴰ·tail}
 use Rattle.route.specs.RightHop.{_∈_}
 use Rattle.route.specs.Lists.{any}
-use Rattle.route.proofs.Tests.{neither}
 
 module _ {A : Type 0} where
   pub any-so : (p : A → Bool) {x : A} {xs : List A} → x ∈ xs → p x ≡ true → any p xs ≡ true

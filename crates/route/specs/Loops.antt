@@ -1,11 +1,17 @@
--- What the contracts of the code's loops speak of, step by step; no promise of a public call cites it.
-use Prim.Native.Nat.{ℕ, zero, suc}
+-- What the contracts of the code's small functions and loops speak of; no call that answers for a list cites it.
+use Prim.Native.Nat.{ℕ, zero, suc, _<_}
+use mathlib.Core.Path.{_≡_}
 use mathlib.Core.List.{List, [], _∷_}
 use lib.ListN.{getD}
-use Rattle.route.specs.Rule.{Route, route, Match, nothing, best}
+use Rattle.route.specs.Rule.{Route, route, span, Match, nothing, best}
 use Rattle.route.specs.Shown.{routeOf}
 use Rattle.route.specs.declared.list.Best.{Best}
 use Rattle.route.specs.declared.list.Best.the-variants.{Nowhere, At}
+
+-- s is the span of length n, and can be divided by
+pub record IsSpan (W n s : ℕ) : Type 0 where
+  pub is : s ≡ span W n
+  pub positive : 0 < s
 
 -- what stood before place i of a row, nearest first
 abbrev pub before : {A : Type 0} → (ℕ → A) → ℕ → List A

@@ -4,7 +4,7 @@
 use Prim.Native.Nat.{ℕ}
 use mathlib.Core.Bool.{cond}
 use lib.Dec.{eqb}
-use Rattle.route.specs.Rule.{Route, route, Match, nothing, best}
+use Rattle.route.specs.Rule.{Route, route}
 use Rattle.route.specs.Refusals.{Answer, value, refused, Verdict, fine, fault}
 use Rattle.route.specs.Refusals.{lengthRefusal, addressRefusal, hopRefusal, twiceRefusal, fullRefusal, absentRefusal, imageRefusal}
 use Rattle.route.specs.Refusals.{sizeRefusal, roomRefusal, planRefusal, numberRefusal, cutRefusal, kindRefusal}

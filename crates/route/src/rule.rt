@@ -3,10 +3,10 @@
 // A prefix of length n covers 2^(32-n) addresses, its span, and matches those with its own quotient
 // by the span. The span of length 0 is 2^32, so it is a u64: no 32-bit number is shifted by 32.
 ghost use mathlib.Core.Path.{_≡_};
-ghost use Prim.Native.Nat.{_<_};
-ghost use Rattle.route.specs.Rule.{span, matches};
+ghost use Rattle.route.specs.Rule.{matches};
 ghost use Rattle.route.specs.Refusals.{prefixFault, hopFault, entryFault};
 ghost use Rattle.route.specs.Shown.{routeOf, verdictOf};
+ghost use Rattle.route.specs.Loops.{IsSpan};
 use crate::Check;
 use crate::Hop;
 use crate::Length;
@@ -16,7 +16,7 @@ use crate::Refusal;
 
 // How many addresses a prefix of length n covers; a length over 32 counts as 32.
 pub fn span_of(n: Length) -> u64
-    ensures { λ r. ⌜ (r ≡ span 32 (n .0)) × (0 < r) ⌝ }
+    ensures { λ r. ⌜ IsSpan 32 (n .0) r ⌝ }
 {
     let bits = n.0;
     if bits < 32 { 1u64 << (32 - bits) } else { 1 }

@@ -10,7 +10,7 @@ impl Random {
     }
 
     /// The next number.
-    pub fn next(&mut self) -> u64 {
+    pub fn number(&mut self) -> u64 {
         self.0 = self.0.wrapping_add(0x9e37_79b9_7f4a_7c15);
         let mut z = self.0;
         z = (z ^ (z >> 30)).wrapping_mul(0xbf58_476d_1ce4_e5b9);
@@ -20,7 +20,7 @@ impl Random {
 
     /// A number below `bound`, which is not 0.
     pub fn below(&mut self, bound: u64) -> u64 {
-        self.next() % bound
+        self.number() % bound
     }
 
     /// One of some values.
@@ -60,7 +60,7 @@ impl Rows {
         let mut seen = std::collections::HashSet::new();
         while rows.addresses.len() < entries {
             let length = random.below(33) as u32;
-            let bits = random.next() as u32 & mask;
+            let bits = random.number() as u32 & mask;
             let address = (u64::from(bits) >> (32 - length) << (32 - length)) as u32;
             if seen.insert((address, length)) {
                 let hop = if random.one_in(8) {

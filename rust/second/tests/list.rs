@@ -128,7 +128,6 @@ fn each_refusal_at_each_place() {
                 2 => rows.hops[place] = 0,
                 _ => rows.hops[place] = 65_536,
             }
-            // the /32 of the board has an odd address already
             assert_eq!(check(&rows), Err((number, place)));
             assert_eq!(lookup(&rows, 7), Err((number, place)));
         }
@@ -190,7 +189,7 @@ fn random_small_lists() {
             Err((number, _)) => refused[usize::from(number)] += 1,
         }
         let mut keys = edges(&rows, 0, 1);
-        keys.push(random.next() as u32);
+        keys.push(random.number() as u32);
         same(&rows, keys);
     }
     // the lists are of every kind

@@ -1,5 +1,4 @@
 -- The prefix's test, then the hop's, as the callees give them.
-use mathlib.Core.Path.{_∙_}
 use borrow.Author.Needs.{needs}
 use Rattle.route.proofs.rule.entry_check.Statement.{statement}
 use Rattle.route.proofs.rule.entry_check.Tie as tie

@@ -5,10 +5,10 @@ use Rattle.route.proofs.rule.prefix_check.Statement.{statement}
 use Rattle.route.proofs.rule.prefix_check.Tie as tie
 
 returns-2 : tie.Need-returns-2
-returns-2 c = rw (← c .before .span-of .ensures .0) (search tests)
+returns-2 c = rw (← c .before .span-of .ensures .is) (search tests)
 
 returns-3 : tie.Need-returns-3
-returns-3 c = rw (← c .before .span-of .ensures .0) (search tests)
+returns-3 c = rw (← c .before .span-of .ensures .is) (search tests)
 
 pub prefix-check-spec : {M : Type 1} → statement M
 prefix-check-spec = tie.close (tie.spec (λ c. search tests) (λ c κs. search needs) (λ c. search needs) returns-2 returns-3)

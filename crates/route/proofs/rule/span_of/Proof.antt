@@ -10,10 +10,11 @@ use Rattle.route.proofs.rule.span_of.Tie as tie
 returns : tie.Need-returns
 returns c =
     let n = c .before .args .n .0 in
-    (shl-one (32 - n) (omega arith), rw (shl-one (32 - n) (omega arith)) (span-pos 32 n))
+    let e = shl-one (32 - n) (omega arith) in
+    record { is = e; positive = rw e (span-pos 32 n) }
 
 returns-2 : tie.Need-returns-2
-returns-2 c = (sym (span-long 32 (c .before .args .n .0) (omega arith)), search needs)
+returns-2 c = record { is = sym (span-long 32 (c .before .args .n .0) (omega arith)); positive = search needs }
 
 pub span-of-spec : {M : Type 1} → statement M
 span-of-spec =
