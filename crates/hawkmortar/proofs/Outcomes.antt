@@ -1,4 +1,4 @@
--- A hop goes out as it is: 0 can be none of a lookup's hops, and stands for none.
+-- The outcome of a hop is its number. A hop 0, which `shown` gives the refusal 0, has the outcome of none.
 use Prim.Native.Nat.{ℕ, zero, suc}
 use mathlib.Core.Path.{_≡_, refl}
 use mathlib.Core.Bool.{cond}

@@ -37,12 +37,14 @@ pub extern "C" fn hawkmortar_list_lookup(
     of_found(route::list::lookup(addresses, lengths, hops, q))
 }
 
+// An accepted call's value.
 fn accepted(value: u64) -> Outcome
     ensures { λ o. ⌜ o ≡ outcome (Answer.value value) ⌝ }
 {
     Outcome { refusal: 0, value }
 }
 
+// A refusal's number and place.
 fn refused(r: Refusal) -> Outcome
     ensures { λ o. ⌜ o ≡ outcome (Answer.refused (number r) (place r)) ⌝ }
 {
@@ -54,6 +56,7 @@ fn refused(r: Refusal) -> Outcome
     }
 }
 
+// What a call that counts answered.
 fn of_counted(c: Counted) -> Outcome
     ensures { λ o. ⌜ o ≡ outcome (counted c) ⌝ }
 {
@@ -63,6 +66,7 @@ fn of_counted(c: Counted) -> Outcome
     }
 }
 
+// What a lookup answered; none is 0.
 fn of_found(f: Found) -> Outcome
     ensures { λ o. ⌜ o ≡ outcome (shown f) ⌝ }
 {

@@ -22,18 +22,18 @@ routes-at ad ns hs i e l =
     rw (add-one, drop-cons ad i 0, drop-cons ns i 0, drop-cons hs i 0)
 
 -- the search from the end: m is the longest match of the entries from entry i on
-pub record Pick (W : ℕ) (ad ns hs : List ℕ) (q : ℕ) (m : Match) (i : ℕ) : Type 0 where
+pub record LongestFrom (W : ℕ) (ad ns hs : List ℕ) (q : ℕ) (m : Match) (i : ℕ) : Type 0 where
   pub within : i ≤ length ad
   pub equal : EqualRows ad ns hs
   pub right : m ≡ longest W (routes (drop i ad) (drop i ns) (drop i hs)) q
 
-pub pick-start : {W : ℕ} {ad ns hs : List ℕ} {q : ℕ} → EqualRows ad ns hs → Pick W ad ns hs q nothing (length ad)
-pick-start {ad = ad} e = record { within = omega arith; equal = e; right = rw (drop-length ad) }
+pub longest-start : {W : ℕ} {ad ns hs : List ℕ} {q : ℕ} → EqualRows ad ns hs → LongestFrom W ad ns hs q nothing (length ad)
+longest-start {ad = ad} e = record { within = omega arith; equal = e; right = rw (drop-length ad) }
 
-module _ {W : ℕ} {ad ns hs : List ℕ} {q : ℕ} {m : Match} {i : ℕ} (p : Pick W ad ns hs q m i) where
-  pub pick-turn : {r : Route} {hit : Bool} {next : Match} → 0 < i → r ≡ routeAt ad ns hs (i - 1) → hit ≡ matches W (r .address) (r .length) q →
-      next ≡ improved hit r m → Pick W ad ns hs q next (i - 1)
-  pick-turn l e h n =
+module _ {W : ℕ} {ad ns hs : List ℕ} {q : ℕ} {m : Match} {i : ℕ} (p : LongestFrom W ad ns hs q m i) where
+  pub longest-turn : {r : Route} {hit : Bool} {next : Match} → 0 < i → r ≡ routeAt ad ns hs (i - 1) → hit ≡ matches W (r .address) (r .length) q →
+      next ≡ improved hit r m → LongestFrom W ad ns hs q next (i - 1)
+  longest-turn l e h n =
       let back : i - 1 + 1 ≡ i = omega arith in
       record {
         within = omega arith;
@@ -41,8 +41,8 @@ module _ {W : ℕ} {ad ns hs : List ℕ} {q : ℕ} {m : Match} {i : ℕ} (p : Pi
         right = rw (n, h, e, routes-at ad ns hs (i - 1) (p .equal) (omega arith), back, p .right);
       }
 
-  pub pick-end : i ≤ 0 → m ≡ longest W (routes ad ns hs) q
-  pick-end l = let z : i ≡ 0 = omega arith in rw z at (p .right)
+  pub longest-end : i ≤ 0 → m ≡ longest W (routes ad ns hs) q
+  longest-end l = let z : i ≡ 0 = omega arith in rw z at (p .right)
 
 -- entry i's verdict, then what comes after it
 list-at : (W : ℕ) (ad ns hs : List ℕ) (i : ℕ) → EqualRows ad ns hs → i < length ad →
@@ -53,25 +53,25 @@ list-at : (W : ℕ) (ad ns hs : List ℕ) (i : ℕ) → EqualRows ad ns hs → i
 list-at W ad ns hs i e l = rw (routes-at ad ns hs i e l)
 
 -- the entries before entry i have no fault: what is left gives the whole verdict
-pub record Sift (W : ℕ) (ad ns hs : List ℕ) (i : ℕ) : Type 0 where
+pub record CheckedBefore (W : ℕ) (ad ns hs : List ℕ) (i : ℕ) : Type 0 where
   pub within : i ≤ length ad
   pub equal : EqualRows ad ns hs
   pub left : listFault W i (before (routeAt ad ns hs) i) (routes (drop i ad) (drop i ns) (drop i hs)) ≡ listFault W 0 [] (routes ad ns hs)
 
 -- r is entry i
-module _ {W : ℕ} {ad ns hs : List ℕ} {i : ℕ} (s : Sift W ad ns hs i) (l : i < length ad) {r : Route} (is : r ≡ routeAt ad ns hs i) where
-  pub sift-fault : {n p : ℕ} → fault n p ≡ entryFault W i r → fault n p ≡ listFault W 0 [] (routes ad ns hs)
-  sift-fault e = rw (list-at W ad ns hs i (s .equal) l, ← (rw is at e)) at (s .left)
+module _ {W : ℕ} {ad ns hs : List ℕ} {i : ℕ} (s : CheckedBefore W ad ns hs i) (l : i < length ad) {r : Route} (is : r ≡ routeAt ad ns hs i) where
+  pub checked-fault : {n p : ℕ} → fault n p ≡ entryFault W i r → fault n p ≡ listFault W 0 [] (routes ad ns hs)
+  checked-fault e = rw (list-at W ad ns hs i (s .equal) l, ← (rw is at e)) at (s .left)
 
-  pub sift-twice : fine ≡ entryFault W i r → hasPrefix r (before (routeAt ad ns hs) i) ≡ true → fault twiceRefusal i ≡ listFault W 0 [] (routes ad ns hs)
-  sift-twice e t = rw (list-at W ad ns hs i (s .equal) l, ← (rw is at e), rw is at t) at (s .left)
+  pub checked-twice : fine ≡ entryFault W i r → hasPrefix r (before (routeAt ad ns hs) i) ≡ true → fault twiceRefusal i ≡ listFault W 0 [] (routes ad ns hs)
+  checked-twice e t = rw (list-at W ad ns hs i (s .equal) l, ← (rw is at e), rw is at t) at (s .left)
 
-  pub sift-turn : fine ≡ entryFault W i r → hasPrefix r (before (routeAt ad ns hs) i) ≡ false → Sift W ad ns hs (i + 1)
-  sift-turn e t = record {
+  pub checked-turn : fine ≡ entryFault W i r → hasPrefix r (before (routeAt ad ns hs) i) ≡ false → CheckedBefore W ad ns hs (i + 1)
+  checked-turn e t = record {
     within = omega arith;
     equal = s .equal;
     left = rw (ap (before (routeAt ad ns hs)) (add-one i)) (rw (list-at W ad ns hs i (s .equal) l, ← (rw is at e), rw is at t) at (s .left));
   }
 
-pub sift-end : {W : ℕ} {ad ns hs : List ℕ} {i : ℕ} → Sift W ad ns hs i → length ad ≤ i → fine ≡ listFault W 0 [] (routes ad ns hs)
-sift-end {ad = ad} s l = rw (drop-of-length-le ad l) at (s .left)
+pub checked-end : {W : ℕ} {ad ns hs : List ℕ} {i : ℕ} → CheckedBefore W ad ns hs i → length ad ≤ i → fine ≡ listFault W 0 [] (routes ad ns hs)
+checked-end {ad = ad} s l = rw (drop-of-length-le ad l) at (s .left)

@@ -25,43 +25,43 @@ Found W rs q (best r) = Longest W rs q r
 
 module _ (W : ℕ) (r : Route) (rs : List Route) (q : ℕ) where
   -- one route more, which does not match or is no longer than the longest
-  leave : (s : Route) → (Matches W r q → r .length ≤ s .length) → Longest W rs q s → Longest W (r ∷ rs) q s
-  leave s h f = record {
+  longest-still : (s : Route) → (Matches W r q → r .length ≤ s .length) → Longest W rs q s → Longest W (r ∷ rs) q s
+  longest-still s h f = record {
     member = List·Memᴰ·tail (f .member);
     matching = f .matching;
     longest = eachOf {P = λ (t : Route). Matches W t q → t .length ≤ s .length} r rs h (f .longest);
   }
 
   -- a route that does not match changes nothing
-  passOver : matches W (r .address) (r .length) q ≡ false → (m : Match) → Found W rs q m → Found W (r ∷ rs) q m
-  passOver e nothing f = eachOf {P = λ (s : Route). Matches W s q → ⊥} r rs (λ c. true≢false (sym c ∙ e)) f
-  passOver e (best s) f = leave s (λ c. absurd (true≢false (sym c ∙ e))) f
+  skip-unmatched : matches W (r .address) (r .length) q ≡ false → (m : Match) → Found W rs q m → Found W (r ∷ rs) q m
+  skip-unmatched e nothing f = eachOf {P = λ (s : Route). Matches W s q → ⊥} r rs (λ c. true≢false (sym c ∙ e)) f
+  skip-unmatched e (best s) f = longest-still s (λ c. absurd (true≢false (sym c ∙ e))) f
 
   -- a route that matches, and than which no other that matches is longer
-  takeIt : Matches W r q → ((s : Route) → s ∈ rs → Matches W s q → s .length ≤ r .length) → Longest W (r ∷ rs) q r
-  takeIt e l = record {
+  longest-first : Matches W r q → ((s : Route) → s ∈ rs → Matches W s q → s .length ≤ r .length) → Longest W (r ∷ rs) q r
+  longest-first e l = record {
     member = List·Memᴰ·head refl;
     matching = e;
     longest = eachOf {P = λ (t : Route). Matches W t q → t .length ≤ r .length} r rs (λ _. omega arith) l;
   }
 
-  improves : Matches W r q → (m : Match) → Found W rs q m → Found W (r ∷ rs) q (improved true r m)
-  improves e nothing f = takeIt e (λ s m c. absurd (f s m c))
-  improves e (best s) f = byTest (ltb (s .length) (r .length))
-      (λ t. rw t (takeIt e (λ u m c. omega (orders, f .longest u m c))))
-      (λ t. rw t (leave s (λ _. omega orders) f))
+  improved-finds : Matches W r q → (m : Match) → Found W rs q m → Found W (r ∷ rs) q (improved true r m)
+  improved-finds e nothing f = longest-first e (λ s m c. absurd (f s m c))
+  improved-finds e (best s) f = byTest (ltb (s .length) (r .length))
+      (λ t. rw t (longest-first e (λ u m c. omega (orders, f .longest u m c))))
+      (λ t. rw t (longest-still s (λ _. omega orders) f))
 
 -- the longest match is found, in any list
 pub finds : (W : ℕ) (rs : List Route) (q : ℕ) → Found W rs q (longest W rs q)
 finds W [] q = λ r m c. List·Memᴰ·not-nil m
 finds W (r ∷ rs) q = byTest (matches W (r .address) (r .length) q)
-    (λ e. rw e (improves W r rs q e (longest W rs q) (finds W rs q)))
-    (λ e. rw e (passOver W r rs q e (longest W rs q) (finds W rs q)))
+    (λ e. rw e (improved-finds W r rs q e (longest W rs q) (finds W rs q)))
+    (λ e. rw e (skip-unmatched W r rs q e (longest W rs q) (finds W rs q)))
 
 -- two matching prefixes of one length are one prefix
-pub meet : (W q : ℕ) (r s : Route) → Valid W r → Valid W s → Matches W r q → Matches W s q → r .length ≡ s .length →
+pub same-address : (W q : ℕ) (r s : Route) → Valid W r → Valid W s → Matches W r q → Matches W s q → r .length ≡ s .length →
     r .address ≡ s .address
-meet W q r s v w c d e =
+same-address W q r s v w c d e =
     let a = div-add-mod' (r .address) (span W (r .length)) in
     let b = div-add-mod' (s .address) (span W (s .length)) in
     let h = eqb-true (q / span W (r .length)) _ c in
@@ -82,7 +82,7 @@ agree W rs ss q ok same (best r) (best s) f g =
     let m = same s .1 (g .member) in
     let e : r .length ≡ s .length =
     le-antisymm (g .longest r (same r .0 (f .member)) (f .matching)) (f .longest s m (g .matching)) in
-    let a = meet W q r s (ok .valid r (f .member)) (ok .valid s m) (f .matching) (g .matching) e in
+    let a = same-address W q r s (ok .valid r (f .member)) (ok .valid s m) (f .matching) (g .matching) e in
     ap (λ t. t .hop) (ok .once r s (f .member) m a e)
 
 -- so the answer goes by the set, whatever the order
@@ -98,10 +98,13 @@ module _ (W : ℕ) (rs : List Route) (q : ℕ) (ok : RouteSet W rs) where
       ofMatch nothing f = noMatch f
       ofMatch (best s) f = hopOfLongest s f (ok .valid s (f .member) .hopped)
 
+  one-answer : (m : Match) → Found W rs q m → hopOf m ≡ answer W rs q
+  one-answer m f = agree W rs rs q ok (λ s. (λ i. i, λ i. i)) m (longest W rs q) f (finds W rs q)
+
   -- and nothing else is
   pub only : (h : ℕ) → Right W rs q h → h ≡ answer W rs q
-  only h (hopOfLongest r l p) = agree W rs rs q ok (λ s. (λ m. m, λ m. m)) (best r) (longest W rs q) l (finds W rs q)
-  only h (noMatch f) = agree W rs rs q ok (λ s. (λ m. m, λ m. m)) nothing (longest W rs q) f (finds W rs q)
+  only h (hopOfLongest r l p) = one-answer (best r) l
+  only h (noMatch f) = one-answer nothing f
 
   -- the route that is found has a hop
   pub found-hop : (r : Route) → best r ≡ longest W rs q → 0 < r .hop

@@ -19,12 +19,12 @@ any-at p at (suc i) j l e =
     (eq-or-lt-of-le (le-of-suc-le-suc l))
 
 -- the search for what stands before place i has come to place j, and nothing before that has the property
-pub record None {A : Type 0} (p : A → Bool) (at : ℕ → A) (i j : ℕ) : Type 0 where
+pub record NoneBefore {A : Type 0} (p : A → Bool) (at : ℕ → A) (i j : ℕ) : Type 0 where
   pub within : j ≤ i
   pub none : any p (before at j) ≡ false
 
-module _ {A : Type 0} {p : A → Bool} {at : ℕ → A} {i j : ℕ} (u : None p at i j) where
-  pub none-turn : j < i → p (at j) ≡ false → None p at i (j + 1)
+module _ {A : Type 0} {p : A → Bool} {at : ℕ → A} {i j : ℕ} (u : NoneBefore p at i j) where
+  pub none-turn : j < i → p (at j) ≡ false → NoneBefore p at i (j + 1)
   none-turn l e = record { within = omega arith; none = rw (add-one, e) (u .none) }
 
   pub none-hit : j < i → p (at j) ≡ true → any p (before at i) ≡ true

@@ -1,4 +1,4 @@
--- What the contracts of the code's small functions and loops speak of; no call that answers for a list cites it.
+-- What the contracts of leaves and of loops speak of. The contracts of the list's test and lookup cite none of it.
 use Prim.Native.Nat.{ℕ, zero, suc, _<_}
 use mathlib.Core.Path.{_≡_}
 use mathlib.Core.List.{List, [], _∷_}

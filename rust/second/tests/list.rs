@@ -9,23 +9,35 @@ fn fault(refusal: Refusal) -> Fault {
     (refusal.number(), refusal.place())
 }
 
+/// What both programs answer to a test of the list.
 fn check(rows: &Rows) -> Result<usize, Fault> {
-    proved::check(&rows.addresses, &rows.lengths, &rows.hops).map_err(fault)
+    let found = proved::check(&rows.addresses, &rows.lengths, &rows.hops).map_err(fault);
+    assert_eq!(
+        found,
+        plain::check(&rows.addresses, &rows.lengths, &rows.hops),
+        "{rows:?}"
+    );
+    found
 }
 
+/// What both programs answer for the address `q`.
 fn lookup(rows: &Rows, q: u32) -> Result<u32, Fault> {
-    proved::lookup(&rows.addresses, &rows.lengths, &rows.hops, q)
+    let found = proved::lookup(&rows.addresses, &rows.lengths, &rows.hops, q)
         .map(|hop| hop.map_or(0, |hop| hop.get().into()))
-        .map_err(fault)
+        .map_err(fault);
+    assert_eq!(
+        found,
+        plain::lookup(&rows.addresses, &rows.lengths, &rows.hops, q),
+        "{q} in {rows:?}"
+    );
+    found
 }
 
 /// Both programs test the list alike, and answer each key alike.
 fn same(rows: &Rows, keys: impl IntoIterator<Item = u32>) {
-    let expected = plain::check(&rows.addresses, &rows.lengths, &rows.hops);
-    assert_eq!(check(rows), expected, "{rows:?}");
+    let _ = check(rows);
     for q in keys {
-        let expected = expected.map(|_| plain::answer(&rows.addresses, &rows.lengths, &rows.hops, q));
-        assert_eq!(lookup(rows, q), expected, "{q} in {rows:?}");
+        let _ = lookup(rows, q);
     }
 }
 
@@ -164,6 +176,7 @@ fn refusals_come_in_their_order() {
 #[test]
 fn no_match_is_no_hop() {
     let rows = one(ip([10, 0, 0, 0]), 8, 5);
+    same(&rows, edges(&rows, 0, 1));
     let found = proved::lookup(&rows.addresses, &rows.lengths, &rows.hops, ip([11, 0, 0, 0]));
     assert_eq!(found, Ok(None));
     let found = proved::lookup(&rows.addresses, &rows.lengths, &rows.hops, ip([10, 9, 9, 9]));

@@ -8,19 +8,19 @@ use lib.ListN
 use Rattle.route.specs.Lists.{samePrefix}
 use Rattle.route.specs.Shown.{routeOf, verdictOf}
 use Rattle.route.specs.Loops.{routeAt}
-use Rattle.route.proofs.Entries.{Sift, sift-fault, sift-twice, sift-turn, sift-end}
-use Rattle.route.proofs.Searches.{None, none-turn, none-end, none-hit}
+use Rattle.route.proofs.Entries.{CheckedBefore, checked-fault, checked-twice, checked-turn, checked-end}
+use Rattle.route.proofs.Searches.{NoneBefore, none-turn, none-end, none-hit}
 use Rattle.route.proofs.list.entries_check.Statement.{statement}
 use Rattle.route.proofs.list.entries_check.Tie as tie
 
 abbrev Inv-loop : tie.InvT-loop
-Inv-loop addresses lengths hops i p j₀ j = None (samePrefix (routeOf p)) (routeAt addresses lengths hops) i j
+Inv-loop addresses lengths hops i p j₀ j = NoneBefore (samePrefix (routeOf p)) (routeAt addresses lengths hops) i j
 
 abbrev μ-loop : tie.MeasureT-loop
 μ-loop addresses lengths hops i p j₀ j = i - j
 
 abbrev Inv-entries : tie.InvT-entries
-Inv-entries addresses lengths hops i₀ i = Sift 32 addresses lengths hops i
+Inv-entries addresses lengths hops i₀ i = CheckedBefore 32 addresses lengths hops i
 
 abbrev μ-entries : tie.MeasureT-entries
 μ-entries addresses lengths hops i₀ i = ListN.length addresses - i
@@ -31,7 +31,7 @@ entries-holds c = record { within = search needs; equal = search needs; left = r
 returns : tie.Need-returns Inv-loop μ-loop Inv-entries μ-entries
 returns c =
     let e = c .before .before .before in
-    sift-fault (e .before .before .before .entries .inv) (search needs) (e .before .entry-at .ensures)
+    checked-fault (e .before .before .before .entries .inv) (search needs) (e .before .entry-at .ensures)
     (sym (ap verdictOf (c .before .checked .given .1)) ∙ e .entry-check .ensures)
 
 loop-holds : tie.Need-loop-holds Inv-loop μ-loop Inv-entries μ-entries
@@ -46,7 +46,7 @@ entries-again : tie.Need-entries-again Inv-loop μ-loop Inv-entries μ-entries
 entries-again c =
     let t = c .before .before in
     let e = t .before .before in
-    sift-turn (e .before .before .before .entries .inv) (search needs) (e .before .entry-at .ensures)
+    checked-turn (e .before .before .before .entries .inv) (search needs) (e .before .entry-at .ensures)
     (sym (ap verdictOf (t .enum-told .given .1)) ∙ e .entry-check .ensures)
     (none-end (c .before .loop .inv) (search needs))
 
@@ -56,13 +56,13 @@ returns-2 c =
     ⊎-elim
     (λ w. absurd (search needs))
     (λ w.
-    sift-twice (c .before .before .entries .inv) (search needs) (w .1 .ensures)
+    checked-twice (c .before .before .entries .inv) (search needs) (w .1 .ensures)
     (sym (ap verdictOf (w .4 .given .1)) ∙ w .2 .ensures)
     (none-hit (w .5 .inv) (search needs) (sym (w .9 .ensures) ∙ w .10 .taken)))
     (c .before .entries-test .came)
 
 returns-3 : tie.Need-returns-3 Inv-loop μ-loop Inv-entries μ-entries
-returns-3 c = sift-end (c .before .before .entries .inv) (search needs)
+returns-3 c = checked-end (c .before .before .entries .inv) (search needs)
 
 pub entries-check-spec : {M : Type 1} → statement M
 entries-check-spec =
