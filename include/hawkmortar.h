@@ -6,7 +6,8 @@
  * the memory it was lent as it was.
  *
  * A row is a pointer, then its length in elements. The pointer is to at least so many elements, is
- * aligned for them, and is not null, also where the length is 0.
+ * aligned for them, and is not null, also where the length is 0. A row that a call writes shares no
+ * element with its other rows.
  */
 #ifndef HAWKMORTAR_H
 #define HAWKMORTAR_H
@@ -23,6 +24,13 @@ extern "C" {
 
 /* The largest next hop; the least is 1, and 0 in an answer is none. */
 #define HAWKMORTAR_MAX_HOP 65535
+
+/* The most slots of a table; the least is 1. */
+#define HAWKMORTAR_MAX_SLOTS 4096
+
+/* The most writes of a plan that sets a prefix, and of one that removes it; a write is three numbers. */
+#define HAWKMORTAR_MAX_SET_WRITES 17
+#define HAWKMORTAR_MAX_REMOVE_WRITES 18
 
 /* Refusals. */
 enum {
@@ -67,6 +75,67 @@ struct hawkmortar_outcome hawkmortar_list_lookup(
     const uint32_t *lengths, size_t lengths_len,
     const uint32_t *hops, size_t hops_len,
     uint32_t q);
+
+/*
+ * Slots: two rows, of addresses and tags, where a tag is length x 65,536 + hop and a free slot is 0 in
+ * both. Each call refuses with 8 rows of unequal length, no slots and more than 4,096 slots.
+ */
+
+/*
+ * Tests the image of a table against the rules S1 to S5 of docs/SPECIFICATION.md.
+ * Value: the number of used slots.
+ * Refusals: 8; 7, the place being the first slot that breaks a rule.
+ */
+struct hawkmortar_outcome hawkmortar_slot_check(
+    const uint32_t *addresses, size_t addresses_len,
+    const uint32_t *tags, size_t tags_len);
+
+/*
+ * Looks the address q up in a table.
+ * Value: the next hop of the first used slot that matches q, 0 where none matches.
+ * Refusals: 8; 7, the place being the first slot that breaks S1.
+ */
+struct hawkmortar_outcome hawkmortar_slot_lookup(
+    const uint32_t *addresses, size_t addresses_len,
+    const uint32_t *tags, size_t tags_len,
+    uint32_t q);
+
+/*
+ * Plans to set a prefix's next hop.
+ * Value: the number of writes. They stand at the front of the plan, three numbers each: slot, address,
+ * tag. The rest of the plan is left as it was.
+ * Refusals: 8; 7 as of hawkmortar_slot_check; 1, 2, 3 of the prefix and its hop; 5; 9 where the plan
+ * has fewer numbers than three times the writes.
+ */
+struct hawkmortar_outcome hawkmortar_plan_set(
+    const uint32_t *addresses, size_t addresses_len,
+    const uint32_t *tags, size_t tags_len,
+    uint32_t address, uint32_t length, uint32_t hop,
+    uint32_t *plan, size_t plan_len);
+
+/*
+ * Plans to remove a prefix.
+ * Value: the number of writes, which stand in the plan as those of hawkmortar_plan_set.
+ * Refusals: 8; 7 as of hawkmortar_slot_check; 1, 2 of the prefix; 6; 9 as of hawkmortar_plan_set.
+ */
+struct hawkmortar_outcome hawkmortar_plan_remove(
+    const uint32_t *addresses, size_t addresses_len,
+    const uint32_t *tags, size_t tags_len,
+    uint32_t address, uint32_t length,
+    uint32_t *plan, size_t plan_len);
+
+/*
+ * Makes the first k writes of a plan. Its whole writes are plan_len / 3, rounded down. The image is not
+ * tested, so that a plan can be applied in parts.
+ * Value: k.
+ * Refusals: 8; 10, the place being the plan's whole writes where k is more, else the first of the k
+ * writes whose slot is not in the table or whose address and tag break S1.
+ */
+struct hawkmortar_outcome hawkmortar_apply(
+    uint32_t *addresses, size_t addresses_len,
+    uint32_t *tags, size_t tags_len,
+    const uint32_t *plan, size_t plan_len,
+    size_t k);
 
 #ifdef __cplusplus
 }

@@ -1,9 +1,18 @@
 -- The board cases that are to be proved, in one list: what the definitions give, and what is expected. proofs/Board has the one proof.
+--
+-- Each is a row of numbers. The plain answer is one number. A table is shown slot by slot; a plan as its own numbers, three to a write.
 use Prim.Native.Nat.{ℕ, _+_, _*_}
 use mathlib.Core.List.{List, [], _∷_, _++_, map}
+use lib.ListN.{length, replicate}
 use Rattle.route.specs.Rule.{Route, route}
 use Rattle.route.specs.Refusals.{Answer, value, refused}
 use Rattle.route.specs.Lists.{listLookup}
+use Rattle.tcam.specs.Slots.{Cell, free, lengthIn, hopIn}
+use Rattle.tcam.specs.Tables.{addresses, tags}
+use Rattle.tcam.specs.Plans
+use Rattle.tcam.specs.Plans.{Write, Planned, refuses, writes, planSet, planRemove}
+use Rattle.tcam.specs.Applies.{written}
+use Rattle.claims.specs.Sequence.{mostToSet, mostToRemove}
 
 -- an address by its four octets
 abbrev pub ip : ℕ → ℕ → ℕ → ℕ → ℕ
@@ -25,7 +34,36 @@ numbers (refused n p) = 0 ∷ n ∷ p ∷ []
 abbrev pub found : List Route → ℕ → List ℕ
 found rs q = numbers (listLookup 32 (map (λ r. r .address) rs) (map (λ r. r .length) rs) (map (λ r. r .hop) rs) q)
 
--- cases a to d, e
+-- the writes of a plan; none where it is refused
+abbrev pub made : Planned → List Write
+made (refuses n p) = []
+made (writes ws) = ws
+
+-- plan the set of a route into a row of 54 numbers, and plan the removal of a prefix
+abbrev pub setWrites : List Cell → Route → List Write
+setWrites cs r = made (planSet 32 (addresses cs) (tags cs) (r .address) (r .length) (r .hop) 54)
+
+abbrev pub removeWrites : List Cell → ℕ → ℕ → List Write
+removeWrites cs a n = made (planRemove 32 (addresses cs) (tags cs) a n 54)
+
+-- the routes set in turn, each plan applied whole: how many writes each has, and the table after
+abbrev pub counts : List Cell → List Route → List ℕ
+counts cs [] = []
+counts cs (r ∷ rs) = length (setWrites cs r) ∷ counts (written cs (setWrites cs r)) rs
+
+abbrev pub tableAfter : List Cell → List Route → List Cell
+tableAfter cs [] = cs
+tableAfter cs (r ∷ rs) = tableAfter (written cs (setWrites cs r)) rs
+
+abbrev pub eightSlots : List Cell
+eightSlots = tableAfter (replicate 8 free) setP
+
+-- what a table's slots hold: prefix and hop, each in three numbers, all 0 where free
+abbrev pub shownSlots : List Cell → List ℕ
+shownSlots [] = []
+shownSlots (c ∷ cs) = c .address ∷ lengthIn c ∷ hopIn c ∷ shownSlots cs
+
+-- cases a to d, e, f, g; then the most writes of a set and of a removal over 32 bits
 abbrev pub got : List (List ℕ)
 got =
     found setP (ip 10 20 4 9)
@@ -33,7 +71,23 @@ got =
     ∷ found setP (ip 10 20 5 0)
     ∷ found setP (ip 255 255 255 255)
     ∷ found withoutDefault (ip 11 0 0 0)
+    ∷ counts (replicate 8 free) setP
+    ∷ shownSlots eightSlots
+    ∷ Plans.numbers (removeWrites eightSlots (ip 10 20 4 0) 24)
+    ∷ (mostToSet 32 ∷ mostToRemove 32 ∷ [])
     ∷ []
 
 abbrev pub expected : List (List ℕ)
-expected = (2 ∷ []) ∷ (3 ∷ []) ∷ (2 ∷ []) ∷ (7 ∷ []) ∷ (0 ∷ []) ∷ []
+expected =
+    (2 ∷ [])
+    ∷ (3 ∷ [])
+    ∷ (2 ∷ [])
+    ∷ (7 ∷ [])
+    ∷ (0 ∷ [])
+    ∷ (1 ∷ 1 ∷ 2 ∷ 3 ∷ 2 ∷ [])
+    ∷ (ip 10 20 4 9 ∷ 32 ∷ 2 ∷ ip 10 20 4 0 ∷ 24 ∷ 3 ∷ ip 10 20 0 0 ∷ 16 ∷ 2
+    ∷ 0 ∷ 0 ∷ 0 ∷ 0 ∷ 0 ∷ 0 ∷ 0 ∷ 0 ∷ 0
+    ∷ ip 10 0 0 0 ∷ 8 ∷ 1 ∷ 0 ∷ 0 ∷ 7 ∷ [])
+    ∷ (1 ∷ ip 10 20 0 0 ∷ (16 * 65536 + 2) ∷ 2 ∷ 0 ∷ 0 ∷ [])
+    ∷ (17 ∷ 18 ∷ [])
+    ∷ []

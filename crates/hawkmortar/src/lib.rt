@@ -6,8 +6,14 @@ ghost use Rattle.hawkmortar.specs.Outcomes.{outcome};
 ghost use Rattle.route.specs.Refusals.{Answer};
 ghost use Rattle.route.specs.Shown.{number, place, counted, shown};
 ghost use Rattle.route.specs.Lists.{listCheck, listLookup};
+ghost use Rattle.tcam.specs.Slots.{slotCheck, slotLookup};
+ghost use Rattle.tcam.specs.Plans.{planSet, planRemove, planAnswer, rowAfter};
+ghost use Rattle.tcam.specs.Applies.{applyAnswer, appliedAddresses, appliedTags};
+ghost use lib.ListN;
 use route::Counted;
 use route::Found;
+use route::Hop;
+use route::Length;
 use route::Refusal;
 
 #[repr(C)]
@@ -35,6 +41,68 @@ pub extern "C" fn hawkmortar_list_lookup(
     ensures { λ r. ⌜ r ≡ outcome (listLookup 32 (now (addresses .entry)) (now (lengths .entry)) (now (hops .entry)) q) ⌝ }
 {
     of_found(route::list::lookup(addresses, lengths, hops, q))
+}
+
+// Tests a table; the value is the number of used slots.
+#[no_mangle]
+pub extern "C" fn hawkmortar_slot_check(addresses: &[u32], tags: &[u32]) -> Outcome
+    ensures { λ r. ⌜ r ≡ outcome (slotCheck 32 (now (addresses .entry)) (now (tags .entry))) ⌝ }
+{
+    of_counted(tcam::image::check(addresses, tags))
+}
+
+// Looks q up in a table; the value is the next hop, 0 for none.
+#[no_mangle]
+pub extern "C" fn hawkmortar_slot_lookup(addresses: &[u32], tags: &[u32], q: u32) -> Outcome
+    ensures { λ r. ⌜ r ≡ outcome (slotLookup 32 (now (addresses .entry)) (now (tags .entry)) q) ⌝ }
+{
+    of_found(tcam::lookup::lookup(addresses, tags, q))
+}
+
+// Plans a set; the value is the number of writes, which the plan then holds.
+#[no_mangle]
+pub extern "C" fn hawkmortar_plan_set(
+    addresses: &[u32],
+    tags: &[u32],
+    address: u32,
+    length: u32,
+    hop: u32,
+    plan: &mut [u32],
+) -> Outcome
+    ensures { λ r. ⌜ r ≡ outcome (planAnswer (planSet 32 (now (addresses .entry)) (now (tags .entry)) address length hop (ListN.length (now (plan .entry))))) ⌝ }
+    ensures { λ r. ⌜ now (plan .exit) ≡ rowAfter (planSet 32 (now (addresses .entry)) (now (tags .entry)) address length hop (ListN.length (now (plan .entry)))) (now (plan .entry)) ⌝ }
+{
+    of_counted(tcam::plan::plan_set(addresses, tags, address, Length(length), Hop(hop), plan))
+}
+
+// Plans a removal; the value is the number of writes, which the plan then holds.
+#[no_mangle]
+pub extern "C" fn hawkmortar_plan_remove(
+    addresses: &[u32],
+    tags: &[u32],
+    address: u32,
+    length: u32,
+    plan: &mut [u32],
+) -> Outcome
+    ensures { λ r. ⌜ r ≡ outcome (planAnswer (planRemove 32 (now (addresses .entry)) (now (tags .entry)) address length (ListN.length (now (plan .entry))))) ⌝ }
+    ensures { λ r. ⌜ now (plan .exit) ≡ rowAfter (planRemove 32 (now (addresses .entry)) (now (tags .entry)) address length (ListN.length (now (plan .entry)))) (now (plan .entry)) ⌝ }
+{
+    of_counted(tcam::plan::plan_remove(addresses, tags, address, Length(length), plan))
+}
+
+// Applies the first k writes of a plan; the value is k.
+#[no_mangle]
+pub extern "C" fn hawkmortar_apply(
+    addresses: &mut [u32],
+    tags: &mut [u32],
+    plan: &[u32],
+    k: usize,
+) -> Outcome
+    ensures { λ r. ⌜ r ≡ outcome (applyAnswer 32 (now (addresses .entry)) (now (tags .entry)) (now (plan .entry)) k) ⌝ }
+    ensures { λ r. ⌜ now (addresses .exit) ≡ appliedAddresses 32 (now (addresses .entry)) (now (tags .entry)) (now (plan .entry)) k ⌝ }
+    ensures { λ r. ⌜ now (tags .exit) ≡ appliedTags 32 (now (addresses .entry)) (now (tags .entry)) (now (plan .entry)) k ⌝ }
+{
+    of_counted(tcam::apply::apply(addresses, tags, plan, k))
 }
 
 // An accepted call's value.

@@ -33,12 +33,12 @@ module _ (W : ℕ) (r : Route) (rs : List Route) (q : ℕ) where
   }
 
   -- a route that does not match changes nothing
-  skip-unmatched : matches W (r .address) (r .length) q ≡ false → (m : Match) → Found W rs q m → Found W (r ∷ rs) q m
+  pub skip-unmatched : matches W (r .address) (r .length) q ≡ false → (m : Match) → Found W rs q m → Found W (r ∷ rs) q m
   skip-unmatched e nothing f = eachOf {P = λ (s : Route). Matches W s q → ⊥} r rs (λ c. true≢false (sym c ∙ e)) f
   skip-unmatched e (best s) f = longest-still s (λ c. absurd (true≢false (sym c ∙ e))) f
 
   -- a route that matches, and than which no other that matches is longer
-  longest-first : Matches W r q → ((s : Route) → s ∈ rs → Matches W s q → s .length ≤ r .length) → Longest W (r ∷ rs) q r
+  pub longest-first : Matches W r q → ((s : Route) → s ∈ rs → Matches W s q → s .length ≤ r .length) → Longest W (r ∷ rs) q r
   longest-first e l = record {
     member = List·Memᴰ·head refl;
     matching = e;

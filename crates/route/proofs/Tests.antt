@@ -1,7 +1,7 @@
 -- What tests say: a joint test taken apart and put together, cases on a test, a verdict taken apart.
 use Prim.Native.Nat.{ℕ}
 use mathlib.Core.Path.{_≡_, refl, sym, _∙_}
-use mathlib.Core.Bool.{Bool, true, false, _&&_, _||_, true≢false}
+use mathlib.Core.Bool.{Bool, true, false, cond, _&&_, _||_, true≢false}
 use native.Mathlib.Omega.{arith}
 use borrow.Author.Tests.{ltb-true, ltb-false, leb-true, leb-false, eqb-true, eqb-false, lt-ltb, le-ltb, le-leb, lt-leb, eq-eqb, ne-eqb}
 use Rattle.route.specs.Refusals.{Verdict, fine, fault, faultIf, _then_, Answer, value, refused, unlessFault}
@@ -16,6 +16,11 @@ pub ruleset tests = (lt-ltb, le-ltb, le-leb, lt-leb, eq-eqb, ne-eqb)
 pub byTest {ℓ} : {C : Type ℓ} (b : Bool) → (b ≡ true → C) → (b ≡ false → C) → C
 byTest true f g = f refl
 byTest false f g = g refl
+
+-- what holds of both arms holds of the choice
+pub either : {A : Type 0} (P : A → Type 0) (t : Bool) {x y : A} → (t ≡ true → P x) → (t ≡ false → P y) → P (cond t x y)
+either P true f g = f refl
+either P false f g = g refl
 
 pub clash : {A : Type 0} {t : Bool} → t ≡ true → t ≡ false → A
 clash e f = absurd (true≢false (sym e ∙ f))
@@ -38,6 +43,10 @@ all-three s t u e =
 pub or-parts : (s t : Bool) → (s || t) ≡ false → (s ≡ false) × (t ≡ false)
 or-parts true t e = (e, cc)
 or-parts false t e = (refl, e)
+
+pub or-right : (s t : Bool) → (s || t) ≡ true → s ≡ false → t ≡ true
+or-right true t e h = cc
+or-right false t e h = e
 
 -- and put together
 pub both : (s t : Bool) → s ≡ true → t ≡ true → (s && t) ≡ true

@@ -19,7 +19,7 @@ pub fn span_of(n: Length) -> u64
     ensures { λ r. ⌜ IsSpan 32 (n .0) r ⌝ }
 {
     let bits = n.0;
-    if bits < 32 { 1u64 << (32 - bits) } else { 1 }
+    if bits <= 32 { 1u64 << (32 - bits) } else { 1 }
 }
 
 // Whether the prefix matches the address q.

@@ -1,5 +1,7 @@
 //! The same checked work in plain Rust.
 
+pub mod slots;
+
 /// A refusal's number and place.
 pub type Fault = (u8, usize);
 

@@ -1,14 +1,35 @@
-/* The board's set P from C: each answer on a line, then the outcome of a list with a repeated prefix. */
+/*
+ * The board's set P from C. First the list: each answer on a line, then the outcome of a list with a repeated prefix.
+ * Then case f, sets in 8 slots: each plan's outcome, and the image. Then case g, a removal: the plan's outcome, the
+ * answer for 10.20.4.10 after each number of its writes, and the image.
+ */
 #include <inttypes.h>
 #include <stdio.h>
 
 #include "hawkmortar.h"
 
 #define ENTRIES 5
+#define SLOTS 8
+
+static uint32_t slot_addresses[SLOTS];
+static uint32_t slot_tags[SLOTS];
+static uint32_t plan[3 * HAWKMORTAR_MAX_REMOVE_WRITES];
 
 static uint32_t ip(uint32_t a, uint32_t b, uint32_t c, uint32_t d)
 {
     return a << 24 | b << 16 | c << 8 | d;
+}
+
+static void show(struct hawkmortar_outcome outcome)
+{
+    printf("%" PRIu64 " %" PRIu64 "\n", outcome.refusal, outcome.value);
+}
+
+static void show_image(void)
+{
+    show(hawkmortar_slot_check(slot_addresses, SLOTS, slot_tags, SLOTS));
+    for (size_t slot = 0; slot < SLOTS; slot++)
+        printf("%zu %08" PRIx32 " %08" PRIx32 "\n", slot, slot_addresses[slot], slot_tags[slot]);
 }
 
 int main(void)
@@ -20,11 +41,31 @@ int main(void)
     const uint32_t twice[2] = {0, 0};
 
     for (size_t i = 0; i < sizeof keys / sizeof keys[0]; i++) {
-        struct hawkmortar_outcome found =
-            hawkmortar_list_lookup(addresses, ENTRIES, lengths, ENTRIES, hops, ENTRIES, keys[i]);
-        printf("%" PRIu64 " %" PRIu64 "\n", found.refusal, found.value);
+        show(hawkmortar_list_lookup(addresses, ENTRIES, lengths, ENTRIES, hops, ENTRIES, keys[i]));
     }
-    struct hawkmortar_outcome checked = hawkmortar_list_check(twice, 2, twice, 2, hops, 2);
-    printf("%" PRIu64 " %" PRIu64 "\n", checked.refusal, checked.value);
+    show(hawkmortar_list_check(twice, 2, twice, 2, hops, 2));
+
+    for (size_t i = 0; i < ENTRIES; i++) {
+        struct hawkmortar_outcome planned = hawkmortar_plan_set(
+            slot_addresses, SLOTS, slot_tags, SLOTS, addresses[i], lengths[i], hops[i], plan, sizeof plan / sizeof plan[0]);
+        show(planned);
+        if (planned.refusal != 0)
+            return 1;
+        size_t writes = (size_t)planned.value;
+        hawkmortar_apply(slot_addresses, SLOTS, slot_tags, SLOTS, plan, 3 * writes, writes);
+    }
+    show_image();
+
+    struct hawkmortar_outcome planned = hawkmortar_plan_remove(
+        slot_addresses, SLOTS, slot_tags, SLOTS, addresses[2], lengths[2], plan, sizeof plan / sizeof plan[0]);
+    show(planned);
+    if (planned.refusal != 0)
+        return 1;
+    size_t writes = (size_t)planned.value;
+    for (size_t k = 0; k <= writes; k++) {
+        hawkmortar_apply(slot_addresses, SLOTS, slot_tags, SLOTS, plan, 3 * writes, k);
+        show(hawkmortar_slot_lookup(slot_addresses, SLOTS, slot_tags, SLOTS, ip(10, 20, 4, 10)));
+    }
+    show_image();
     return 0;
 }

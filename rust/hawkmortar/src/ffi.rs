@@ -45,4 +45,52 @@ extern "C" {
         hops_len: usize,
         q: u32,
     ) -> Outcome;
+
+    pub fn hawkmortar_slot_check(
+        addresses: *const u32,
+        addresses_len: usize,
+        tags: *const u32,
+        tags_len: usize,
+    ) -> Outcome;
+
+    pub fn hawkmortar_slot_lookup(
+        addresses: *const u32,
+        addresses_len: usize,
+        tags: *const u32,
+        tags_len: usize,
+        q: u32,
+    ) -> Outcome;
+
+    pub fn hawkmortar_plan_set(
+        addresses: *const u32,
+        addresses_len: usize,
+        tags: *const u32,
+        tags_len: usize,
+        address: u32,
+        length: u32,
+        hop: u32,
+        plan: *mut u32,
+        plan_len: usize,
+    ) -> Outcome;
+
+    pub fn hawkmortar_plan_remove(
+        addresses: *const u32,
+        addresses_len: usize,
+        tags: *const u32,
+        tags_len: usize,
+        address: u32,
+        length: u32,
+        plan: *mut u32,
+        plan_len: usize,
+    ) -> Outcome;
+
+    pub fn hawkmortar_apply(
+        addresses: *mut u32,
+        addresses_len: usize,
+        tags: *mut u32,
+        tags_len: usize,
+        plan: *const u32,
+        plan_len: usize,
+        k: usize,
+    ) -> Outcome;
 }

@@ -19,19 +19,36 @@
 //! // 10.20.0.0/8 is no prefix: its address is not a multiple of 2^24
 //! assert_eq!(list::check(&addresses, &[8, 8], &hops), Err(Refusal::Address(1)));
 //! ```
+//!
+//! A [`Table`] keeps routes in slots and plans each update as a row of single writes; [`slots`] has the same calls over lent
+//! rows.
 #![warn(missing_docs)]
 
 mod ffi;
 pub mod list;
+mod prefix;
 mod refusal;
+pub mod slots;
+pub mod table;
 
+pub use prefix::Prefix;
 pub use refusal::Refusal;
+pub use table::{Entry, Plan, Table, Write};
 
 use std::fmt;
 use std::num::NonZeroU16;
 
 /// The most entries of a list.
 pub const MAX_ROUTES: usize = 4096;
+
+/// The most slots of a table; the least is 1.
+pub const MAX_SLOTS: usize = 4096;
+
+/// The most writes of a plan that sets a prefix.
+pub const MAX_SET_WRITES: usize = 17;
+
+/// The most writes of a plan that removes a prefix.
+pub const MAX_REMOVE_WRITES: usize = 18;
 
 /// A next hop: a number from 1 to 65,535.
 #[derive(Clone, Copy, PartialEq, Eq, PartialOrd, Ord, Hash, Debug)]

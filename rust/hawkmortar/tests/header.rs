@@ -4,6 +4,31 @@ use std::env;
 use std::path::{Path, PathBuf};
 use std::process::Command;
 
+/// The used slots, then each slot with its address and tag.
+const AFTER_SETS: &str = "\
+0 5
+0 0a140409 00200002
+1 0a140400 00180003
+2 0a140000 00100002
+3 00000000 00000000
+4 00000000 00000000
+5 00000000 00000000
+6 0a000000 00080001
+7 00000000 00000007
+";
+
+const AFTER_REMOVAL: &str = "\
+0 4
+0 0a140409 00200002
+1 0a140000 00100002
+2 00000000 00000000
+3 00000000 00000000
+4 00000000 00000000
+5 00000000 00000000
+6 0a000000 00080001
+7 00000000 00000007
+";
+
 #[test]
 fn a_c_program_over_the_header_answers_the_board() {
     let here = Path::new(env!("CARGO_MANIFEST_DIR"));
@@ -28,5 +53,11 @@ fn a_c_program_over_the_header_answers_the_board() {
     );
     let ran = Command::new(&program).output().expect("the program runs");
     assert!(ran.status.success());
-    assert_eq!(String::from_utf8_lossy(&ran.stdout), "0 2\n0 3\n0 2\n0 7\n4 1\n");
+    let list = "0 2\n0 3\n0 2\n0 7\n4 1\n";
+    let sets = "0 1\n0 1\n0 2\n0 3\n0 2\n";
+    let removal = "0 2\n0 3\n0 2\n0 2\n";
+    assert_eq!(
+        String::from_utf8_lossy(&ran.stdout),
+        format!("{list}{sets}{AFTER_SETS}{removal}{AFTER_REMOVAL}")
+    );
 }

@@ -2,8 +2,10 @@
 //!
 //! It answers numbers: a value, or the refusal's number and place.
 
+pub mod book;
 pub mod list;
 pub mod random;
+pub mod slots;
 
 /// A refusal's number and place.
 pub type Fault = (u8, usize);

@@ -1,4 +1,4 @@
--- A shift of 1 by less than the width is a power of two.
+-- A shift of 1 by at most the width is a power of two.
 use borrow.Author.Needs.{needs}
 use native.Mathlib.Omega.{arith}
 use Prim.Native.Nat.{_-_}
@@ -17,7 +17,4 @@ returns-2 : tie.Need-returns-2
 returns-2 c = record { is = sym (span-long 32 (c .before .args .n .0) (omega arith)); positive = search needs }
 
 pub span-of-spec : {M : Type 1} → statement M
-span-of-spec =
-    tie.close
-    (tie.spec
-    (λ c. search needs) (λ c. search needs) (λ c. search needs) returns returns-2)
+span-of-spec = tie.close (tie.spec (λ c. search needs) (λ c. search needs) returns returns-2)

@@ -1,0 +1,115 @@
+-- What a planned set or removal answers and leads to: a refusal, or an accepted plan.
+use Prim.Native.Nat.{ℕ, _*_, _≤_}
+use mathlib.Core.Path.{_≡_, refl, ap, _∙_}
+use mathlib.Core.Bool.{Bool, true, false, cond}
+use mathlib.Core.List.{List}
+use native.Mathlib.Nat.{le-refl}
+use lib.Dec.{ltb}
+use lib.ListN.{length, take}
+use lib.Seq.{take-length}
+use Rattle.route.specs.Rule.{Route}
+use Rattle.route.specs.Refusals.{fine, value, refused, roomRefusal}
+use Rattle.tcam.specs.Slots.{maxSlots, Cell}
+use Rattle.tcam.specs.Plans.{Write, Planned, refuses, writes, withRoom, rowAfter}
+use Rattle.tcam.specs.Applies.{written}
+use Rattle.tcam.specs.Book.{Book, BookAnswer, bookImage, settled}
+use Rattle.tcam.specs.Tables.{addresses, tags, routesIn, TableOf}
+use Rattle.claims.specs.Sequence.{Table, Plan, State, planned, Sound, AcceptedPlan, PlanClaim, after, lookedUp}
+use Rattle.claims.proofs.Times.{All, all-take}
+use Rattle.claims.proofs.Image.{BookOk}
+use Rattle.claims.proofs.Form.{well-formed, image-length, image-keeps}
+use Rattle.claims.proofs.Members.{Same, same-members}
+use Rattle.claims.proofs.Apply.{cells-back, no-size-fault, Good, answers-k, after-is, looked-up, length-written, keeps-written}
+use Rattle.claims.proofs.Set.{set-right}
+use Rattle.claims.proofs.Cuts.{Leads}
+
+-- the table is the image of a book that keeps its rows, and holds its set
+pub record Holding (W M : ℕ) (t : Table) : Type 0 where
+  pub isImage : t .image ≡ bookImage W M (t .book)
+  pub ok : BookOk W M (t .book)
+  pub same : Same (routesIn (bookImage W M (t .book))) (t .routes)
+
+-- the image of such a book is a table of the set
+pub image-table : (W M : ℕ) → 1 ≤ M → M ≤ maxSlots → (b : Book) → BookOk W M b → (rs : List Route) → Same (routesIn (bookImage W M b)) rs
+    → TableOf W rs (addresses (bookImage W M b)) (tags (bookImage W M b))
+image-table W M i j b ok rs same = record {
+  sized = no-size-fault (bookImage W M b) (rw (image-length W M b ok) i) (rw (image-length W M b ok) j);
+  wellFormed = rw cells-back (well-formed W M b ok);
+  exactly = λ r. rw cells-back (same-members same r);
+}
+
+pub sound : {W M : ℕ} → 1 ≤ M → M ≤ maxSlots → {t : Table} → Holding W M t → Sound W M t
+sound {W} {M} i j {t} h = record {
+  isImage = h .isImage;
+  sized = rw (h .isImage) (image-length W M (t .book) (h .ok));
+  isTable = rw (h .isImage) (image-table W M i j (t .book) (h .ok) (t .routes) (h .same));
+}
+
+abbrev pub tableOf : ℕ → ℕ → Book → List Route → Table
+tableOf W M b rs = record { image = bookImage W M b; book = b; routes = rs }
+
+module _ (W M : ℕ) (i : 1 ≤ M) (j : M ≤ maxSlots) (b : Book) (ok : BookOk W M b) (rs : List Route) (same : Same (routesIn (bookImage W M b)) rs) where
+  pub holding : Holding W M (tableOf W M b rs)
+  holding = record { isImage = refl; ok = ok; same = same }
+
+  module _ (ws : List Write) (next : Book) (nextRoutes : List Route) (switch : ℕ) (l : Leads W M b rs ws next nextRoutes switch) (row : List ℕ) where
+    abbrev plan : Plan
+    plan = record { row = rowAfter (writes ws) row; writes = length ws; switch = switch }
+
+    abbrev nextTable : Table
+    nextTable = record { image = after W (bookImage W M b) (plan .row) (length ws); book = next; routes = nextRoutes }
+
+    cs-good : All (Good W (length (bookImage W M b))) ws
+    cs-good = rw (image-length W M b ok) (l .good)
+
+    low : 1 ≤ length (bookImage W M b)
+    low = rw (image-length W M b ok) i
+
+    high : length (bookImage W M b) ≤ maxSlots
+    high = rw (image-length W M b ok) j
+
+    pub holding-next : Holding W M nextTable
+    holding-next = record {
+      isImage = after-is W (bookImage W M b) low high ws cs-good row (length ws) (le-refl (length ws)) ∙ rw take-length (l .whole);
+      ok = l .ok;
+      same = l .same;
+    }
+
+    pub acceptedPlan : (most : ℕ) → length ws ≤ most → AcceptedPlan W most plan (tableOf W M b rs) nextTable
+    acceptedPlan most m = record {
+      bounded = m;
+      rightBefore = set-right W M b ok rs same;
+      rightAfter = set-right W M next (l .ok) nextRoutes (l .same);
+      cuts = λ k n. record {
+        answers = answers-k W (bookImage W M b) low high ws cs-good row k n;
+        looksUp = λ q. ap (λ (cs : List Cell). lookedUp W cs q) (after-is W (bookImage W M b) low high ws cs-good row k n)
+            ∙ looked-up W (written (bookImage W M b) (take k ws)) (rw length-written low) (rw length-written high)
+            (keeps-written W M (bookImage W M b) (take k ws) (image-keeps W M b ok) (all-take _ k ws (l .good))) q
+            ∙ ap value (l .cuts k n q);
+      };
+    }
+
+  module _ (back : Table → State) (rest : State → Type 0) (backs : (t : Table) → Holding W M t → rest (back t))
+      (plans : (p : Plan) (t u : Table) → Holding W M t → Holding W M u → rest (planned p t u))
+      (most : ℕ) (row : List ℕ) (switch : ℕ → ℕ) (nextRoutes : List Route) where
+    -- the claim of such a request, by its plan and the book's answer
+    abbrev pub Answered : Planned → BookAnswer → Type 0
+    Answered p e = PlanClaim W M (tableOf W M b rs) row back rest (record { plan = p; booked = e; routes = nextRoutes; switch = switch; most = most })
+
+    pub answers-refused : (x y : ℕ) → Answered (refuses x y) (record { answer = refused x y; book = b })
+    answers-refused x y = (refl, (sound i j holding, backs (tableOf W M b rs) holding))
+
+    pub answers-room : (ws : List Write) (next : Book) (w : ℕ) → Leads W M b rs ws next nextRoutes (switch (length ws)) → length ws ≡ w → w ≤ most
+        → Answered (withRoom (length row) fine ws) (settled fine (length row) w b next)
+    answers-room ws next w l e m = rw (← e) (go (ltb (length row) (3 * length ws)))
+      where
+        go : (t : Bool) → Answered (cond t (refuses roomRefusal 0) (writes ws))
+            (cond t (record { answer = refused roomRefusal 0; book = b }) (record { answer = value (length ws); book = next }))
+        go true = answers-refused roomRefusal 0
+        go false = (
+          refl,
+          (
+            acceptedPlan ws next nextRoutes (switch (length ws)) l row most (rw e m),
+            plans _ _ _ holding (holding-next ws next nextRoutes (switch (length ws)) l row),
+          ),
+        )

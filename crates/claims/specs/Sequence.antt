@@ -1,0 +1,160 @@
+-- Demand 3: one claim about any sequence of calls on a table that starts empty.
+--
+-- A sequence is a list of calls: planned sets, planned removals, applies of an accepted plan, and applies that are refused. The claim is
+-- a type by recursion over that list. At each set or removal it says that the plan answers as the book does; that a refused one leaves
+-- the table sound; and that an accepted one is bounded and right at every cut. At each apply it says that the table is sound again: the
+-- image of the book, and a table of its set. No call stops the claim.
+use Prim.Native.Nat.{ℕ, _+_, _-_, _/_, _≤_}
+use mathlib.Core.Path.{_≡_}
+use mathlib.Core.Logic.{_≢_}
+use mathlib.Core.Bool.{cond, _&&_}
+use mathlib.Core.List.{List, [], _∷_}
+use lib.Dec.{ltb, eqb}
+use lib.ListN.{length, replicate}
+use Rattle.route.specs.Rule.{Route, route, answer}
+use Rattle.route.specs.Refusals.{fine, Answer, value}
+use Rattle.route.specs.RightHop.{Right}
+use Rattle.route.specs.Lists.{hasPrefix}
+use Rattle.tcam.specs.Slots.{maxSlots, Cell, cells, free, slotLookup}
+use Rattle.tcam.specs.Tables.{addresses, tags, TableOf}
+use Rattle.tcam.specs.Plans.{Planned, refuses, writes, planSet, planRemove, planAnswer, rowAfter}
+use Rattle.tcam.specs.Applies.{applyFault, applyAnswer, appliedAddresses, appliedTags}
+use Rattle.tcam.specs.Book.{Book, BookAnswer, emptyBook, bookImage, bookSet, bookRemove}
+
+-- the calls of a sequence
+pub data Call : Type 0 where
+  -- plan a set or a removal, into a lent row that holds anything
+  set : (a n h : ℕ) (row : List ℕ) → Call
+  remove : (a n : ℕ) (row : List ℕ) → Call
+  -- apply the accepted plan that waits, whole, from the row as it was left; where none waits there is nothing to apply
+  applyPlan : Call
+  -- apply anything that is refused
+  applyRefused : (row : List ℕ) (k : ℕ) → Call
+
+-- a set without a prefix
+abbrev pub without : ℕ → ℕ → List Route → List Route
+without a n [] = []
+without a n (r ∷ rs) = cond (eqb (r .address) a && eqb (r .length) n) (without a n rs) (r ∷ without a n rs)
+
+-- the table, its book, and the set that the accepted updates say
+pub record Table : Type 0 where
+  pub image : List Cell
+  pub book : Book
+  pub routes : List Route
+
+-- a plan that was accepted: its row, how many writes, and the first write from which lookups answer for the set after
+pub record Plan : Type 0 where
+  pub row : List ℕ
+  pub writes : ℕ
+  pub switch : ℕ
+
+-- a table, or an accepted plan that waits for its apply, with the table before and after it
+pub data State : Type 0 where
+  idle : Table → State
+  planned : Plan → (before after : Table) → State
+
+-- the table is the book's image, of M slots, and a table of its set
+pub record Sound (W M : ℕ) (t : Table) : Type 0 where
+  pub isImage : t .image ≡ bookImage W M (t .book)
+  pub sized : length (t .image) ≡ M
+  pub isTable : TableOf W (t .routes) (addresses (t .image)) (tags (t .image))
+
+-- the table after the first k writes of a row
+abbrev pub after : ℕ → List Cell → List ℕ → ℕ → List Cell
+after W cs row k = cells (appliedAddresses W (addresses cs) (tags cs) row k) (appliedTags W (addresses cs) (tags cs) row k)
+
+abbrev pub lookedUp : ℕ → List Cell → ℕ → Answer
+lookedUp W cs q = slotLookup W (addresses cs) (tags cs) q
+
+-- the first k writes of the plan: the apply answers k, and a lookup answers for the set before, from the switch on for the set after
+pub record Cut (W : ℕ) (p : Plan) (before next : Table) (k : ℕ) : Type 0 where
+  pub answers : applyAnswer W (addresses (before .image)) (tags (before .image)) (p .row) k ≡ value k
+  pub looksUp :
+      (q : ℕ) →
+      lookedUp W (after W (before .image) (p .row) k) q
+      ≡ value (cond (ltb k (p .switch)) (answer W (before .routes) q) (answer W (next .routes) q))
+
+-- an accepted plan: bounded, right answers before and after, and every cut
+pub record AcceptedPlan (W most : ℕ) (p : Plan) (before next : Table) : Type 0 where
+  pub bounded : p .writes ≤ most
+  pub rightBefore : (q : ℕ) → Right W (before .routes) q (answer W (before .routes) q)
+  pub rightAfter : (q : ℕ) → Right W (next .routes) q (answer W (next .routes) q)
+  pub cuts : (k : ℕ) → k ≤ p .writes → Cut W p before next k
+
+-- the most writes of a plan, over the width W
+abbrev pub mostToSet : ℕ → ℕ
+mostToSet W = W - W / 2 + 1
+
+abbrev pub mostToRemove : ℕ → ℕ
+mostToRemove W = W - W / 2 + 2
+
+-- a set or a removal: its plan, the book's answer, the set after it if it is accepted, the first of so many writes from which
+-- lookups answer for that set, and the most writes
+pub record Request : Type 0 where
+  pub plan : Planned
+  pub booked : BookAnswer
+  pub routes : List Route
+  pub switch : ℕ → ℕ
+  pub most : ℕ
+
+-- a set of an absent prefix changes the answers at its last write, every other plan at its first
+abbrev pub setRequest : ℕ → ℕ → Table → ℕ → ℕ → ℕ → ℕ → Request
+setRequest W M t a n h room = record {
+  plan = planSet W (addresses (t .image)) (tags (t .image)) a n h room;
+  booked = bookSet W M (t .book) a n h room;
+  routes = route a n h ∷ without a n (t .routes);
+  switch = λ w. cond (hasPrefix (route a n h) (t .routes)) 1 w;
+  most = mostToSet W;
+}
+
+abbrev pub removeRequest : ℕ → ℕ → Table → ℕ → ℕ → ℕ → Request
+removeRequest W M t a n room = record {
+  plan = planRemove W (addresses (t .image)) (tags (t .image)) a n room;
+  booked = bookRemove W M (t .book) a n room;
+  routes = without a n (t .routes);
+  switch = λ w. 1;
+  most = mostToRemove W;
+}
+
+-- what a plan leads to: refused, a sound table, whose book is the one that the book's answer leaves, and the calls go on where they
+-- stood, `back`; accepted, the plan waits, in place of one that waited before
+abbrev pub Outcome : ℕ → ℕ → Table → List ℕ → Request → (Table → State) → (State → Type 0) → Planned → Type 0
+Outcome W M t row r back rest (refuses n p) = Sound W M t′ × rest (back t′)
+  where
+    t′ : Table
+    t′ = record { image = t .image; book = r .booked .book; routes = t .routes }
+Outcome W M t row r back rest (writes ws) = AcceptedPlan W (r .most) p t t′ × rest (planned p t t′)
+  where
+    p : Plan
+    p = record { row = rowAfter (writes ws) row; writes = length ws; switch = r .switch (length ws) }
+
+    t′ : Table
+    t′ = record { image = after W (t .image) (p .row) (length ws); book = r .booked .book; routes = r .routes }
+
+-- a set or a removal answers as the book does, and leads on
+abbrev pub PlanClaim : ℕ → ℕ → Table → List ℕ → (Table → State) → (State → Type 0) → Request → Type 0
+PlanClaim W M t row back rest r = (planAnswer (r .plan) ≡ r .booked .answer) × Outcome W M t row r back rest (r .plan)
+
+-- an apply that is refused leaves the table as it was
+abbrev pub RefusedApply : ℕ → Table → List ℕ → ℕ → Type 0 → Type 0
+RefusedApply W t row k rest =
+    applyFault W (addresses (t .image)) (tags (t .image)) row k ≢ fine → (after W (t .image) row k ≡ t .image) × rest
+
+-- the claim about the calls that are left, at each state
+abbrev pub Claim : ℕ → ℕ → List Call → State → Type 0
+Claim W M [] s = Unit {0}
+Claim W M (set a n h row ∷ cs) (idle t) = PlanClaim W M t row idle (Claim W M cs) (setRequest W M t a n h (length row))
+Claim W M (set a n h row ∷ cs) (planned p t t′) =
+    PlanClaim W M t row (λ b. planned p b t′) (Claim W M cs) (setRequest W M t a n h (length row))
+Claim W M (remove a n row ∷ cs) (idle t) = PlanClaim W M t row idle (Claim W M cs) (removeRequest W M t a n (length row))
+Claim W M (remove a n row ∷ cs) (planned p t t′) =
+    PlanClaim W M t row (λ b. planned p b t′) (Claim W M cs) (removeRequest W M t a n (length row))
+Claim W M (applyPlan ∷ cs) (idle t) = Claim W M cs (idle t)
+Claim W M (applyPlan ∷ cs) (planned p t t′) = Sound W M t′ × Claim W M cs (idle t′)
+Claim W M (applyRefused row k ∷ cs) (idle t) = RefusedApply W t row k (Claim W M cs (idle t))
+Claim W M (applyRefused row k ∷ cs) (planned p t t′) = RefusedApply W t row k (Claim W M cs (planned p t t′))
+
+abbrev pub Demand3 : ℕ → Type 0
+Demand3 W =
+    (M : ℕ) → 1 ≤ M → M ≤ maxSlots → (cs : List Call) →
+    Claim W M cs (idle (record { image = replicate M free; book = emptyBook; routes = [] }))

@@ -1,0 +1,14 @@
+-- One slot, the rows of a table as slots, what a tested table says, and the slots' part of demand 2.
+pub mod Cells
+pub mod Rows
+pub mod SlotsAgree
+pub mod Sizes
+-- The loops, by family: the image test, the lookup, the writes of a plan, runs of lengths and edge slots, chains.
+pub mod Images
+pub mod Scans
+pub mod Writes
+pub mod Runs
+pub mod Edges
+pub mod Chains
+-- What a plan answers and leaves.
+pub mod Planned

@@ -1,0 +1,10 @@
+-- Slots, their rules and the lookup; the table of a set.
+pub mod Slots
+pub mod Tables
+-- Planned updates, applying them, and the book that they are compared with.
+pub mod Plans
+pub mod Applies
+pub mod Book
+-- What the code's types show, and what only loops need.
+pub mod Shown
+pub mod Loops

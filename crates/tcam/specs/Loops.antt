@@ -1,0 +1,110 @@
+-- What the contracts of leaves and of loops speak of. No promise of a public call cites it.
+use Prim.Native.Nat.{ℕ, zero, suc, _+_, _-_, _*_, _/_, _≤_}
+use mathlib.Core.Path.{_≡_}
+use mathlib.Core.Bool.{Bool, true, false, cond, not, _&&_, _||_}
+use mathlib.Core.List.{List, [], _∷_}
+use mathlib.Core.Option.{Option, none, some}
+use lib.Dec.{ltb, leb}
+use lib.ListN.{length, getD}
+use Rattle.route.specs.Refusals.{fine}
+use Rattle.route.specs.Lists.{any}
+use Rattle.tcam.specs.Slots.{Cell, cell, cells, maxSlots, slotFault, isFree, isUpper, isLower, lengthIn, keepsS1, longerThanNearest}
+use Rattle.tcam.specs.Plans.{Write, write, firstSlot, lastSlot, ofLength, rising, falling, isSome, chain}
+use Rattle.tcam.specs.declared.image.Seen.{Seen}
+use Rattle.tcam.specs.declared.plan.Run.{Run}
+
+-- slot i of two rows
+abbrev pub cellAt : List ℕ → List ℕ → ℕ → Cell
+cellAt ad ts i = cell (getD ad i 0) (getD ts i 0)
+
+-- write i of a plan's row
+abbrev pub writeAt : List ℕ → ℕ → Write
+writeAt plan i = write (getD plan (3 * i) 0) (cell (getD plan (3 * i + 1) 0) (getD plan (3 * i + 2) 0))
+
+-- what the image test keeps of the slots `before`: a slot that keeps S1 is longer than the nearest used one where it is longer than
+-- `nearest`; whether one is free; whether one holds an entry below the pool
+pub record SeenBefore (W : ℕ) (before : List Cell) (seen : Seen) : Type 0 where
+  pub nearest : (c : Cell) → keepsS1 W c ≡ true → isFree c ≡ false → longerThanNearest c before ≡ ltb (seen .nearest .0) (lengthIn c)
+  pub free : any isFree before ≡ seen .free
+  pub lower : any (isLower W) before ≡ seen .lower
+
+-- the same with one slot more
+pub record SeenWith (W : ℕ) (c : Cell) (seen next : Seen) : Type 0 where
+  pub nearest : next .nearest .0 ≡ cond (isFree c) (seen .nearest .0) (lengthIn c)
+  pub free : next .free ≡ (isFree c || seen .free)
+  pub lower : next .lower ≡ (isLower W c || seen .lower)
+
+-- whether a slot breaks one of S1 to S4
+abbrev pub misplacedBy : ℕ → Cell → Seen → Bool
+misplacedBy W c seen =
+    not (keepsS1 W c)
+    || (not (isFree c) && ltb (seen .nearest .0) (lengthIn c))
+    || (isUpper W c && seen .free)
+    || (isFree c && seen .lower)
+
+-- the four runs of lengths are one: the first slots of rising lengths, or the last slots of falling ones
+abbrev pub edge : Bool → (Cell → Bool) → List Cell → Option ℕ
+edge true p cs = firstSlot p 0 cs
+edge false p cs = lastSlot p 0 cs
+
+abbrev pub edgeOf : Bool → List Cell → ℕ → Option ℕ
+edgeOf up cs l = edge up (ofLength l) cs
+
+abbrev pub run : Bool → ℕ → ℕ → List ℕ
+run true k l = rising k l
+run false k l = falling k l
+
+-- the lengths between length n and the pool
+abbrev pub runTo : ℕ → Bool → ℕ → List ℕ
+runTo W up n = cond (leb (W / 2) n) (run up (n - W / 2) (W / 2)) (run up (W / 2 - 1 - n) (n + 1))
+
+-- the first of k lengths from l on
+abbrev pub lengthAt : Bool → ℕ → ℕ → ℕ
+lengthAt true k l = l
+lengthAt false k l = l + (k - 1)
+
+abbrev pub lengthsOf : Run → List ℕ
+lengthsOf r = run (r .up) (r .count) (r .from)
+
+-- a run of lengths without its first
+pub record ShorterBy (r next : Run) : Type 0 where
+  pub same : next .up ≡ r .up
+  pub is : lengthsOf r ≡ lengthAt (r .up) (r .count) (r .from) ∷ lengthsOf next
+  pub less : suc (next .count) ≡ r .count
+  pub within : next .from + next .count ≤ r .from + r .count
+
+-- the copies of a run's edge entries, then the last cell
+abbrev pub chainOf : Run → List Cell → ℕ → Cell → List Write
+chainOf r cs at last = chain (edgeOf (r .up) cs) cs (lengthsOf r) at last
+
+-- how many of the lengths have an edge slot
+abbrev pub moves : (ℕ → Option ℕ) → List ℕ → ℕ
+moves edge [] = 0
+moves edge (l ∷ ls) = cond (isSome (edge l)) 1 0 + moves edge ls
+
+-- a row of edge slots has a number for each length, and a last one for the free slots: 0 for none, s + 1 for slot s
+abbrev pub asSlot : ℕ → Option ℕ
+asSlot zero = none
+asSlot (suc s) = some s
+
+abbrev pub slotIn : List ℕ → ℕ → Option ℕ
+slotIn row l = asSlot (getD row l 0)
+
+abbrev pub classOf : ℕ → Cell → ℕ
+classOf W c = cond (isFree c) (W + 1) (lengthIn c)
+
+pub record EdgesOf (W : ℕ) (up : Bool) (cs : List Cell) (row : List ℕ) : Type 0 where
+  pub size : length row ≡ W + 2
+  pub of : (l : ℕ) → l ≤ W → slotIn row l ≡ edgeOf up cs l
+  pub pool : slotIn row (W + 1) ≡ edge up isFree cs
+
+-- the slot that a pass over M slots comes to after k others: from the last one back for first slots, from slot 0 on for last ones
+abbrev pub visited : Bool → ℕ → ℕ → ℕ
+visited true M k = M - 1 - k
+visited false M k = k
+
+-- two rows of a table whose slots keep S1
+pub record TableRows (W : ℕ) (ad ts : List ℕ) : Type 0 where
+  pub equal : length ad ≡ length ts
+  pub few : length ad ≤ maxSlots
+  pub keeps : slotFault W 0 (cells ad ts) ≡ fine

@@ -1,0 +1,153 @@
+// The image test: the first slot that breaks one of S1 to S5.
+//
+// One pass in rising order keeps what S2 to S4 ask of the slots before: the nearest used one's
+// length, whether one is free, whether one is below the pool. S5 compares a used slot with those
+// before it, and only where it breaks none of the other rules.
+ghost use mathlib.Core.Path.{_≡_};
+ghost use mathlib.Core.Bool.{cond, not, _||_, _&&_};
+ghost use Prim.Native.Nat.{_≤_, _<_};
+ghost use mathlib.Core.List.{[]};
+ghost use lib.Dec.{ltb};
+ghost use lib.ListN.{length};
+ghost use Rattle.route.specs.Lists.{any};
+ghost use Rattle.route.specs.Loops.{before};
+ghost use Rattle.route.specs.Shown.{verdictOf, counted};
+ghost use Rattle.tcam.specs.Slots.{cells, samePrefixIn, breaks, imageFault, tableFault, usedIn, slotCheck};
+ghost use Rattle.tcam.specs.Shown.{cellOf};
+ghost use Rattle.tcam.specs.Loops.{cellAt, misplacedBy, SeenBefore, SeenWith};
+use crate::slots::Cell;
+use crate::slots::cell_at;
+use crate::slots::size_check;
+use route::Check;
+use route::Counted;
+use route::Length;
+use route::Refusal;
+use route::Slot;
+
+// What stands before a slot, as far as S2 to S4 ask.
+pub struct Seen {
+    pub nearest: Length,
+    pub free: bool,
+    pub lower: bool,
+}
+
+impl Seen {
+    // With one slot more.
+    fn with(self, c: Cell) -> Seen
+        ensures { λ r. ⌜ SeenWith 32 (cellOf c) self r ⌝ }
+    {
+        if c.is_free() {
+            let nearest = self.nearest;
+            return Seen {
+                nearest,
+                free: true,
+                lower: self.lower,
+            };
+        }
+        Seen {
+            nearest: c.length(),
+            free: self.free,
+            lower: c.is_lower() | self.lower,
+        }
+    }
+
+    // Whether a slot after these breaks one of S1 to S4.
+    fn refuses(self, c: Cell) -> bool
+        ensures { λ r. ⌜ r ≡ misplacedBy 32 (cellOf c) self ⌝ }
+    {
+        let n = c.length();
+        let nearest = self.nearest;
+        !c.is_valid()
+            | (!c.is_free() & (nearest.0 < n.0))
+            | (c.is_upper() & self.free)
+            | (c.is_free() & self.lower)
+    }
+}
+
+// S5: whether a slot before slot i holds the prefix of c.
+fn stands_before(addresses: &[u32], tags: &[u32], i: Slot, c: Cell) -> bool
+    requires { ⌜ (length (now addresses) ≡ length (now tags)) × (i .0 ≤ length (now addresses)) ⌝ }
+    ensures { λ r. ⌜ r ≡ any (samePrefixIn (cellOf c)) (before (cellAt (now (addresses .entry)) (now (tags .entry))) (i .0)) ⌝ }
+{
+    let end = i.0;
+    let mut j = 0;
+    while j < end {
+        if c.stands_in(cell_at(addresses, tags, Slot(j))) {
+            return true;
+        }
+        j += 1;
+    }
+    false
+}
+
+// Whether slot i, which holds c, breaks one of S1 to S5.
+fn breaks_rule(addresses: &[u32], tags: &[u32], seen: Seen, i: Slot, c: Cell) -> bool
+    requires { ⌜ (length (now addresses) ≡ length (now tags)) × (i .0 ≤ length (now addresses)) ⌝ }
+    requires { ⌜ SeenBefore 32 (before (cellAt (now addresses) (now tags)) (i .0)) seen ⌝ }
+    ensures { λ r. ⌜ r ≡ breaks 32 (cellOf c) (before (cellAt (now (addresses .entry)) (now (tags .entry))) (i .0)) ⌝ }
+{
+    if seen.refuses(c) {
+        return true;
+    }
+    if c.is_free() {
+        return false;
+    }
+    stands_before(addresses, tags, i, c)
+}
+
+// Refusal 7 of an update.
+fn image_check(addresses: &[u32], tags: &[u32]) -> Check
+    requires { ⌜ length (now addresses) ≡ length (now tags) ⌝ }
+    ensures { λ r. ⌜ verdictOf r ≡ imageFault 32 0 [] (cells (now (addresses .entry)) (now (tags .entry))) ⌝ }
+{
+    let mut seen = Seen {
+        nearest: Length(32),
+        free: false,
+        lower: false,
+    };
+    let mut i = 0;
+    while i < addresses.len() {
+        let c = cell_at(addresses, tags, Slot(i));
+        if breaks_rule(addresses, tags, seen, Slot(i), c) {
+            return Check::Fault(Refusal::Image(i));
+        }
+        seen = seen.with(c);
+        i += 1;
+    }
+    Check::Fine
+}
+
+// How many slots are used.
+fn used_slots(addresses: &[u32], tags: &[u32]) -> usize
+    requires { ⌜ length (now addresses) ≡ length (now tags) ⌝ }
+    ensures { λ r. ⌜ r ≡ usedIn (cells (now (addresses .entry)) (now (tags .entry))) ⌝ }
+{
+    let mut used = 0;
+    let mut i = addresses.len();
+    while 0 < i {
+        i -= 1;
+        used += cell_at(addresses, tags, Slot(i)).uses();
+    }
+    used
+}
+
+// Refusal 8, then 7: what an update tests of a table.
+pub fn table_check(addresses: &[u32], tags: &[u32]) -> Check
+    ensures { λ r. ⌜ verdictOf r ≡ tableFault 32 (now (addresses .entry)) (now (tags .entry)) ⌝ }
+{
+    let size = size_check(addresses.len(), tags.len());
+    if let Check::Fault(f) = size {
+        return Check::Fault(f);
+    }
+    image_check(addresses, tags)
+}
+
+// Tests a table as an update does: the number of used slots, or refusal 8 or 7.
+pub fn check(addresses: &[u32], tags: &[u32]) -> Counted
+    ensures { λ r. ⌜ counted r ≡ slotCheck 32 (now (addresses .entry)) (now (tags .entry)) ⌝ }
+{
+    match table_check(addresses, tags) {
+        Check::Fault(f) => Counted::Refused(f),
+        Check::Fine => Counted::Count(used_slots(addresses, tags)),
+    }
+}

@@ -1,0 +1,254 @@
+//! Slots: the image test, lookup, plans and their application.
+//!
+//! Each rule of the image names the first slot that breaks it, and the least of these is the image's fault. A plan is a path of
+//! slots: each is written with what the next one holds, and the last with the new entry or with nothing.
+
+use crate::list::{bounds, entry_fault};
+use crate::Fault;
+use std::collections::HashSet;
+
+/// The two rows of a table.
+#[derive(Clone, PartialEq, Eq, Debug)]
+pub struct Image {
+    /// The addresses.
+    pub addresses: Vec<u32>,
+    /// The tags: length x 65,536 + hop.
+    pub tags: Vec<u32>,
+}
+
+impl Image {
+    /// So many free slots.
+    pub fn empty(slots: usize) -> Self {
+        Image {
+            addresses: vec![0; slots],
+            tags: vec![0; slots],
+        }
+    }
+}
+
+/// What a slot holds.
+#[derive(Clone, Copy, PartialEq, Eq, Debug)]
+enum Cell {
+    Free,
+    Entry {
+        address: u32,
+        length: u32,
+        hop: u32,
+    },
+    /// Neither: S1 is broken.
+    Bad,
+}
+
+fn cell(address: u32, tag: u32) -> Cell {
+    let (length, hop) = (tag / 65_536, tag % 65_536);
+    if address == 0 && tag == 0 {
+        Cell::Free
+    } else if entry_fault(0, address, length, hop).is_some() {
+        Cell::Bad
+    } else {
+        Cell::Entry { address, length, hop }
+    }
+}
+
+/// The number of slots, where it is good.
+fn size(addresses: &[u32], tags: &[u32]) -> Result<usize, Fault> {
+    if addresses.len() != tags.len() || addresses.is_empty() || addresses.len() > 4096 {
+        return Err((8, 0));
+    }
+    Ok(addresses.len())
+}
+
+/// The cells of rows whose size is good.
+fn cells(addresses: &[u32], tags: &[u32]) -> Result<Vec<Cell>, Fault> {
+    size(addresses, tags)?;
+    Ok(addresses.iter().zip(tags).map(|(&a, &t)| cell(a, t)).collect())
+}
+
+/// The slots with entries, each with its address and length, from slot 0 upward.
+fn entries(cells: &[Cell]) -> impl Iterator<Item = (usize, u32, u32)> + '_ {
+    cells.iter().enumerate().filter_map(|(slot, cell)| match *cell {
+        Cell::Entry { address, length, .. } => Some((slot, address, length)),
+        _ => None,
+    })
+}
+
+/// Each slot is free or holds a valid prefix and hop.
+fn s1(cells: &[Cell]) -> Option<usize> {
+    cells.iter().position(|&cell| cell == Cell::Bad)
+}
+
+/// A used slot's length is no greater than that of the used slot before it.
+fn s2(cells: &[Cell]) -> Option<usize> {
+    entries(cells)
+        .zip(entries(cells).skip(1))
+        .find(|((_, _, before), (_, _, length))| length > before)
+        .map(|(_, (slot, _, _))| slot)
+}
+
+/// An entry of length 16 or more has no free slot before it.
+fn s3(cells: &[Cell]) -> Option<usize> {
+    let free = cells.iter().position(|&cell| cell == Cell::Free)?;
+    entries(cells)
+        .find(|&(slot, _, length)| slot > free && length >= 16)
+        .map(|(slot, _, _)| slot)
+}
+
+/// A free slot has no entry of length 15 or less before it.
+fn s4(cells: &[Cell]) -> Option<usize> {
+    let (short, _, _) = entries(cells).find(|&(_, _, length)| length <= 15)?;
+    (short..cells.len()).find(|&slot| cells[slot] == Cell::Free)
+}
+
+/// No prefix stands in two slots.
+fn s5(cells: &[Cell]) -> Option<usize> {
+    let mut seen = HashSet::with_capacity(cells.len());
+    entries(cells)
+        .find(|&(_, address, length)| !seen.insert((address, length)))
+        .map(|(slot, _, _)| slot)
+}
+
+/// The cells of an image that is well-formed.
+fn well_formed(addresses: &[u32], tags: &[u32]) -> Result<Vec<Cell>, Fault> {
+    let cells = cells(addresses, tags)?;
+    match [s1, s2, s3, s4, s5].iter().filter_map(|rule| rule(&cells)).min() {
+        Some(slot) => Err((7, slot)),
+        None => Ok(cells),
+    }
+}
+
+/// The number of used slots, or the first refusal.
+pub fn check(addresses: &[u32], tags: &[u32]) -> Result<usize, Fault> {
+    Ok(entries(&well_formed(addresses, tags)?).count())
+}
+
+/// The hop of the first used slot that has `q` among its addresses, 0 where none has, or the first refusal.
+pub fn lookup(addresses: &[u32], tags: &[u32], q: u32) -> Result<u32, Fault> {
+    let cells = cells(addresses, tags)?;
+    if let Some(slot) = s1(&cells) {
+        return Err((7, slot));
+    }
+    let found = cells.iter().find_map(|cell| match *cell {
+        Cell::Entry { address, length, hop } => {
+            let (first, last) = bounds(address, length);
+            (first <= q && q <= last).then_some(hop)
+        }
+        _ => None,
+    });
+    Ok(found.unwrap_or(0))
+}
+
+/// A write: slot, address, tag.
+pub type Write = [u32; 3];
+
+/// The slots of each length, from slot 0 upward.
+fn slots_by_length(cells: &[Cell]) -> Vec<Vec<usize>> {
+    let mut slots = vec![Vec::new(); 33];
+    for (slot, _, length) in entries(cells) {
+        slots[length as usize].push(slot);
+    }
+    slots
+}
+
+/// The writes along a path: each slot gets what the next one holds, the last gets the cell.
+fn along(path: &[usize], addresses: &[u32], tags: &[u32], last: (u32, u32)) -> Vec<Write> {
+    let held = path[1..].iter().map(|&slot| (addresses[slot], tags[slot]));
+    path.iter()
+        .zip(held.chain([last]))
+        .map(|(&slot, (address, tag))| [slot as u32, address, tag])
+        .collect()
+}
+
+/// The writes, where `room` cells are enough for them.
+fn with_room(writes: Vec<Write>, room: usize) -> Result<Vec<Write>, Fault> {
+    if 3 * writes.len() > room {
+        return Err((9, 0));
+    }
+    Ok(writes)
+}
+
+/// The writes that set a prefix's hop, for an output of `room` cells, or the first refusal.
+pub fn plan_set(
+    addresses: &[u32],
+    tags: &[u32],
+    address: u32,
+    length: u32,
+    hop: u32,
+    room: usize,
+) -> Result<Vec<Write>, Fault> {
+    let cells = well_formed(addresses, tags)?;
+    if let Some(fault) = entry_fault(0, address, length, hop) {
+        return Err(fault);
+    }
+    let new = (address, length * 65_536 + hop);
+    if let Some((slot, _, _)) = entries(&cells).find(|&(_, a, n)| (a, n) == (address, length)) {
+        let writes = if tags[slot] == new.1 {
+            vec![]
+        } else {
+            vec![[slot as u32, new.0, new.1]]
+        };
+        return with_room(writes, room);
+    }
+    let pool: Vec<usize> = (0..cells.len()).filter(|&slot| cells[slot] == Cell::Free).collect();
+    if pool.is_empty() {
+        return Err((5, 0));
+    }
+    let by_length = slots_by_length(&cells);
+    let n = length as usize;
+    let mut path = Vec::new();
+    if n >= 16 {
+        path.extend(pool.first());
+        path.extend((16..n).filter_map(|moved| by_length[moved].first()));
+    } else {
+        path.extend(pool.last());
+        path.extend((n + 1..=15).rev().filter_map(|moved| by_length[moved].last()));
+    }
+    with_room(along(&path, addresses, tags, new), room)
+}
+
+/// The writes that remove a prefix, for an output of `room` cells, or the first refusal.
+pub fn plan_remove(
+    addresses: &[u32],
+    tags: &[u32],
+    address: u32,
+    length: u32,
+    room: usize,
+) -> Result<Vec<Write>, Fault> {
+    let cells = well_formed(addresses, tags)?;
+    // a removal has no hop to test
+    if let Some(fault) = entry_fault(0, address, length, 1) {
+        return Err(fault);
+    }
+    let Some((slot, _, _)) = entries(&cells).find(|&(_, a, n)| (a, n) == (address, length)) else {
+        return Err((6, 0));
+    };
+    let by_length = slots_by_length(&cells);
+    let n = length as usize;
+    let mut path = vec![slot];
+    if n >= 16 {
+        path.extend((16..=n).rev().filter_map(|moved| by_length[moved].last()));
+    } else {
+        path.extend((n..=15).filter_map(|moved| by_length[moved].first()));
+    }
+    // an entry at its length's edge is not moved over itself
+    path.dedup();
+    with_room(along(&path, addresses, tags, (0, 0)), room)
+}
+
+/// Makes the first `k` writes of a plan: `k`, or the refusal.
+pub fn apply(addresses: &mut [u32], tags: &mut [u32], plan: &[u32], k: usize) -> Result<usize, Fault> {
+    let slots = size(addresses, tags)?;
+    let whole = plan.len() / 3;
+    if k > whole {
+        return Err((10, whole));
+    }
+    let writes = || plan.chunks_exact(3).take(k);
+    if let Some(place) = writes().position(|write| write[0] as usize >= slots || cell(write[1], write[2]) == Cell::Bad)
+    {
+        return Err((10, place));
+    }
+    for write in writes() {
+        addresses[write[0] as usize] = write[1];
+        tags[write[0] as usize] = write[2];
+    }
+    Ok(k)
+}

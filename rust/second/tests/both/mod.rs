@@ -1,0 +1,149 @@
+//! The slot calls, each asked of both programs: the answers are compared, and so is every cell that was lent. A refused call
+//! has left all of them as they were, an accepted one has changed exactly what the second program says.
+
+use hawkmortar::{slots as proved, Refusal};
+use second::list::bounds;
+use second::random::Random;
+use second::slots::{self as plain, Image};
+use second::Fault;
+
+pub fn fault(refusal: Refusal) -> Fault {
+    (refusal.number(), refusal.place())
+}
+
+/// A set of a prefix, or its removal where there is no hop.
+#[derive(Clone, Copy, Debug)]
+pub struct Update {
+    pub address: u32,
+    pub length: u32,
+    pub hop: Option<u32>,
+}
+
+pub fn set(address: u32, length: u32, hop: u32) -> Update {
+    Update {
+        address,
+        length,
+        hop: Some(hop),
+    }
+}
+
+pub fn remove(address: u32, length: u32) -> Update {
+    Update {
+        address,
+        length,
+        hop: None,
+    }
+}
+
+/// What both programs answer to a test of the image.
+pub fn check(image: &Image) -> Result<usize, Fault> {
+    let lent = image.clone();
+    let found = proved::check(&lent.addresses, &lent.tags).map_err(fault);
+    assert_eq!(found, plain::check(&image.addresses, &image.tags), "{image:?}");
+    assert!(lent == *image, "a test changed {image:?}");
+    found
+}
+
+/// What the library answers for the address `q`.
+pub fn library_lookup(image: &Image, q: u32) -> Result<u32, Fault> {
+    proved::lookup(&image.addresses, &image.tags, q)
+        .map(|hop| hop.map_or(0, |hop| hop.get().into()))
+        .map_err(fault)
+}
+
+/// What both programs answer for each of some addresses.
+pub fn lookups(image: &Image, keys: &[u32]) -> Vec<Result<u32, Fault>> {
+    let lent = image.clone();
+    let found: Vec<_> = keys.iter().map(|&q| library_lookup(&lent, q)).collect();
+    for (&q, &found) in keys.iter().zip(&found) {
+        let expected = plain::lookup(&image.addresses, &image.tags, q);
+        assert_eq!(found, expected, "{q} in {image:?}");
+    }
+    assert!(lent == *image, "a lookup changed {image:?}");
+    found
+}
+
+/// What both programs answer for the address `q`.
+pub fn lookup(image: &Image, q: u32) -> Result<u32, Fault> {
+    lookups(image, &[q])[0]
+}
+
+/// The plan that both programs make in a row of `room` cells: the cells of its writes. The cells past them are as found.
+pub fn plan(image: &Image, update: Update, room: usize) -> Result<Vec<u32>, Fault> {
+    let blank: Vec<u32> = (0..room as u32).map(|i| 0xabcd_0000 + i).collect();
+    let (lent, mut row) = (image.clone(), blank.clone());
+    let Update { address, length, hop } = update;
+    let (found, expected) = match hop {
+        Some(hop) => (
+            proved::plan_set(&lent.addresses, &lent.tags, address, length, hop, &mut row),
+            plain::plan_set(&image.addresses, &image.tags, address, length, hop, room),
+        ),
+        None => (
+            proved::plan_remove(&lent.addresses, &lent.tags, address, length, &mut row),
+            plain::plan_remove(&image.addresses, &image.tags, address, length, room),
+        ),
+    };
+    let expected = expected.map(|writes| writes.concat());
+    assert_eq!(
+        found.map_err(fault),
+        expected.clone().map(|cells| cells.len() / 3),
+        "{update:?}, room {room}, in {image:?}"
+    );
+    let written = expected.as_ref().map_or(&[][..], |cells| cells);
+    assert_eq!(row[..written.len()], *written, "writes of {update:?} in {image:?}");
+    assert_eq!(row[written.len()..], blank[written.len()..], "cells past {update:?}");
+    assert!(lent == *image, "{update:?} changed {image:?}");
+    expected
+}
+
+/// The first `k` writes of a plan, made by both programs: their answer; `image` is as both leave it.
+pub fn apply(image: &mut Image, plan: &[u32], k: usize) -> Result<usize, Fault> {
+    let before = image.clone();
+    let mut expected_image = image.clone();
+    let lent = plan.to_vec();
+    let found = proved::apply(&mut image.addresses, &mut image.tags, &lent, k).map_err(fault);
+    let expected = plain::apply(&mut expected_image.addresses, &mut expected_image.tags, plan, k);
+    assert_eq!(found, expected, "{k} writes of {plan:?}");
+    assert!(*image == expected_image, "{k} writes of {plan:?} in {before:?}");
+    assert!(found.is_ok() || *image == before, "a refused plan was made: {plan:?}");
+    assert!(lent == plan, "{k} writes changed {plan:?}");
+    found
+}
+
+/// A prefix's first and last address and those one beyond.
+pub fn edges(address: u32, length: u32) -> [u32; 4] {
+    let (first, last) = bounds(address, length);
+    [first, last, first.wrapping_sub(1), last.wrapping_add(1)]
+}
+
+/// Changes one cell, or one row's length, so that most results are to be refused.
+pub fn damage(image: &mut Image, random: &mut Random) {
+    if random.one_in(12) {
+        let row = if random.one_in(2) {
+            &mut image.addresses
+        } else {
+            &mut image.tags
+        };
+        if random.one_in(2) {
+            row.push(0);
+        } else {
+            row.pop();
+        }
+        return;
+    }
+    let slots = image.addresses.len().min(image.tags.len()) as u64;
+    if slots == 0 {
+        return;
+    }
+    let (i, j) = (random.below(slots) as usize, random.below(slots) as usize);
+    match random.below(6) {
+        0 => image.tags[i] = random.pick(&[0, 1, 33 << 16 | 1, 32 << 16, 24 << 16 | 1, 8 << 16 | 1, u32::MAX]),
+        1 => image.addresses[i] ^= 1 << random.below(32),
+        2 => (image.addresses[i], image.tags[i]) = (0, 0),
+        3 => (image.addresses[i], image.tags[i]) = (image.addresses[j], image.tags[j]),
+        _ => {
+            image.addresses.swap(i, j);
+            image.tags.swap(i, j);
+        }
+    }
+}
