@@ -1,4 +1,8 @@
 -- Demand 3, by induction over the calls.
+--
+-- What the calls keep is `Holding`: the table is the image of its book, whose rows are in order, and holds its set. Each planned set or
+-- removal leads from there to there (SetCall, RemoveCall), since its writes walk the open slot from the one image to the next (Side),
+-- and no lookup can tell the cuts inside a walk from the table without its open slot (Walk). A refused call goes back to where it was.
 use Prim.Native.Nat.{ℕ, suc, zero, _+_, _-_, _/_, _≤_, zero-le}
 use mathlib.Core.Path.{_≡_, refl, sym, subst}
 use mathlib.Core.List.{List, [], _∷_, append-nil}

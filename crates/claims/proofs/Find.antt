@@ -3,14 +3,14 @@ use Prim.Native.Nat.{ℕ, _+_}
 use mathlib.Core.Path.{_≡_, refl, sym, ap, _∙_}
 use mathlib.Core.Bool.{Bool, true, false, cond}
 use mathlib.Core.List.{List, [], _∷_, _++_}
-use mathlib.Core.Option.{Option, none, some}
+use mathlib.Core.Option.{none, some}
 use native.Mathlib.Nat.{add-zero, zero-add}
 use native.Mathlib.Omega.{arith}
 use lib.Dec.{ltb}
 use lib.ListN.{length}
 use borrow.Author.Tests.{lt-ltb}
 use Rattle.tcam.specs.Slots.{Cell}
-use Rattle.tcam.specs.Plans.{firstSlot, lastSlot, ofLength, isSome}
+use Rattle.tcam.specs.Plans.{firstSlot, lastSlot, isSome}
 use Rattle.tcam.specs.Book.{countIf}
 use Rattle.tcam.specs.Loops.{edge}
 use Rattle.claims.proofs.Times.{times, none-here}

@@ -31,7 +31,7 @@ use Rattle.claims.proofs.Form.{image-length}
 use Rattle.claims.proofs.Members.{any-none, Same}
 use Rattle.claims.proofs.Entry.{cellOf}
 use Rattle.claims.proofs.HasPrefix.{set-has}
-use Rattle.claims.proofs.Joins.{new-entry, joins, same-joins}
+use Rattle.claims.proofs.NewEntry.{new-entry, joins, same-joins}
 use Rattle.claims.proofs.Answer.{image-table}
 use Rattle.claims.proofs.Demand3.{empty-ok, empty-is, no-routes}
 

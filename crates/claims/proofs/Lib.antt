@@ -33,7 +33,7 @@ pub mod Apply
 pub mod Cuts
 pub mod Entry
 pub mod Answer
-pub mod Joins
+pub mod NewEntry
 pub mod SetCall
 pub mod RemoveCall
 pub mod Demand3

@@ -29,7 +29,7 @@ use Rattle.claims.proofs.Entry.{cellOf, prefix-length, entry}
 use Rattle.claims.proofs.Updates.{update-replace, found-prefix, cleared-present, stands-at, stands-there, stands-nowhere}
 use Rattle.claims.proofs.Updates.{full-is, rowsTurned-most}
 use Rattle.claims.proofs.HasPrefix.{set-lacks, set-has, hasEntry-is}
-use Rattle.claims.proofs.Joins.{new-entry, same-next, joins, same-joins}
+use Rattle.claims.proofs.NewEntry.{new-entry, same-next, joins, same-joins}
 use Rattle.claims.proofs.Answer.{Holding, Answered, answers-refused, answers-room}
 
 module _ (W M : ℕ) (i : 1 ≤ M) (j : M ≤ maxSlots) (b : Book) (ok : BookOk W M b) (rs : List Route) (same : Same (routesIn (bookImage W M b)) rs)

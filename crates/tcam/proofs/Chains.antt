@@ -1,11 +1,11 @@
 -- The chain of copies: how many writes it has, and the loops that count and put them.
 use Prim.Native.Nat.{ℕ, zero, suc, _+_, _-_, _*_, _≤_, _<_}
-use mathlib.Core.Path.{_≡_, refl, sym, ap, subst, _∙_}
+use mathlib.Core.Path.{_≡_, refl, sym, ap, _∙_}
 use mathlib.Core.Bool.{Bool, true, false, cond}
 use mathlib.Core.List.{List, [], _∷_}
 use mathlib.Core.Option.{Option, none, some}
 use native.Mathlib.Omega.{arith}
-use lib.ListN.{length, getD, length-set}
+use lib.ListN.{length, length-set}
 use lib.Seq.{sets}
 use Rattle.tcam.specs.Slots.{Cell, maxSlots, cells}
 use Rattle.tcam.specs.Plans.{Write, write, firstSlot, lastSlot, isSome, openAfter, chain, numbers}

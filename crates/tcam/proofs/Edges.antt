@@ -18,7 +18,7 @@ use borrow.Author.Tests.{eqb-true, eqb-false, eq-eqb, ne-eqb, not-false}
 use Rattle.route.specs.Refusals.{fine, faultIf, imageRefusal}
 use Rattle.tcam.specs.Slots.{Cell, cell, cells, isFree, lengthIn, keepsS1, slotFault}
 use Rattle.tcam.specs.Plans.{firstSlot, lastSlot, orElse, ofLength}
-use Rattle.tcam.specs.Loops.{cellAt, edge, edgeOf, slotIn, asSlot, classOf, EdgesOf, visited}
+use Rattle.tcam.specs.Loops.{cellAt, edge, slotIn, asSlot, classOf, EdgesOf, visited}
 use Rattle.route.proofs.Tests.{inTurn, passed}
 use Rattle.tcam.proofs.Rows.{cells-at}
 use Rattle.tcam.proofs.Cells.{used-short}

@@ -1,19 +1,18 @@
 -- The image test: what is kept of the slots before slot i tells which rules it breaks, and the slots before it break none.
-use Prim.Native.Nat.{ℕ, _+_, _-_, _%_, _≤_, _<_}
+use Prim.Native.Nat.{ℕ, _+_, _-_, _≤_, _<_}
 use mathlib.Core.Path.{_≡_, refl, sym, ap, _∙_}
 use mathlib.Core.Bool.{Bool, true, false, cond, not, _&&_, _||_}
 use mathlib.Core.List.{List, [], _∷_}
 use native.Mathlib.Omega.{arith}
 use native.Mathlib.Numerals.{add-one}
-use lib.Dec.{ltb, leb, eqb}
+use lib.Dec.{ltb}
 use lib.ListN.{length, drop, drop-of-length-le}
 use lib.Seq.{drop-length}
-use borrow.Author.Tests.{le-ltb, leb-true}
+use borrow.Author.Tests.{le-ltb}
 use Rattle.route.specs.Refusals.{fine, fault, imageRefusal}
-use Rattle.route.specs.Rule.{span}
 use Rattle.route.specs.Lists.{any}
 use Rattle.route.specs.Loops.{before}
-use Rattle.tcam.specs.Slots.{Cell, cells, isFree, isUpper, isLower, lengthIn, hopIn, keepsS1, longerThanNearest, samePrefixIn, breaks, imageFault, usedIn}
+use Rattle.tcam.specs.Slots.{Cell, cells, isFree, isUpper, lengthIn, keepsS1, longerThanNearest, samePrefixIn, breaks, imageFault, usedIn}
 use Rattle.tcam.specs.Loops.{cellAt, SeenBefore, SeenWith, misplacedBy}
 use Rattle.tcam.specs.declared.image.Seen.{Seen}
 use Rattle.tcam.proofs.Rows.{cells-at}

@@ -1,8 +1,8 @@
 -- A run of lengths begins with its first one, rising or falling.
 use Prim.Native.Nat.{ℕ, suc, _+_, _-_, _≤_, _<_}
-use mathlib.Core.Path.{_≡_, refl, ap}
+use mathlib.Core.Path.{_≡_, ap}
 use mathlib.Core.Bool.{Bool, true, false}
-use mathlib.Core.List.{List, [], _∷_}
+use mathlib.Core.List.{[], _∷_}
 use native.Mathlib.Omega.{arith}
 use Rattle.tcam.specs.Plans.{rising, falling}
 use Rattle.tcam.specs.Loops.{run, lengthAt}

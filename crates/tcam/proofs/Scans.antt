@@ -1,15 +1,13 @@
 -- The lookup's pass: the slots before slot i keep S1 and do not match, so what is left gives the whole answer.
-use Prim.Native.Nat.{ℕ, _+_, _%_, _≤_, _<_}
-use mathlib.Core.Path.{_≡_, refl, sym}
-use mathlib.Core.Bool.{true, false, not, _&&_, _||_}
+use Prim.Native.Nat.{ℕ, _+_, _≤_, _<_}
+use mathlib.Core.Path.{_≡_}
+use mathlib.Core.Bool.{true, false, not}
 use mathlib.Core.List.{List}
 use native.Mathlib.Omega.{arith}
-use lib.Dec.{leb, eqb}
 use lib.ListN.{length, drop, drop-of-length-le}
-use borrow.Author.Tests.{eqb-false, not-true, not-false}
-use Rattle.route.specs.Refusals.{Verdict, fine, fault, Answer, value, refused, unlessFault, imageRefusal}
-use Rattle.route.specs.Rule.{span}
-use Rattle.tcam.specs.Slots.{Cell, cells, isFree, lengthIn, hopIn, keepsS1, hits, slotFault, firstMatch}
+use borrow.Author.Tests.{not-true}
+use Rattle.route.specs.Refusals.{fine, fault, Answer, value, refused, unlessFault, imageRefusal}
+use Rattle.tcam.specs.Slots.{Cell, cells, isFree, hopIn, keepsS1, hits, slotFault, firstMatch}
 use Rattle.tcam.specs.Loops.{cellAt}
 use Rattle.route.proofs.Tests.{and-parts}
 use Rattle.tcam.proofs.Rows.{cells-at}

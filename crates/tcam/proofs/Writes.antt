@@ -1,17 +1,17 @@
 -- The loops over the first k writes of a plan: what each has done at write i, and that a turn keeps it.
 use Prim.Native.Nat.{ℕ, suc, _+_, _-_, _*_, _/_, _≤_, _<_}
-use mathlib.Core.Path.{_≡_, refl, sym, ap}
-use mathlib.Core.Bool.{Bool, true, false, not}
+use mathlib.Core.Path.{_≡_, refl}
+use mathlib.Core.Bool.{true, false}
 use mathlib.Core.List.{List, [], _∷_}
 use native.Mathlib.Omega.{arith}
 use native.Mathlib.Nat.{sub-zero}
 use native.Mathlib.Numerals.{add-one, add-two}
 use borrow.Author.Tests.{leb-false}
 use lib.Dec.{leb}
-use lib.ListN.{length, getD, take, drop, set, length-set}
+use lib.ListN.{length, take, drop, set, length-set}
 use lib.Seq.{drop-cons}
 use Rattle.route.specs.Refusals.{value, refused, fine, fault, faultIf, planRefusal}
-use Rattle.tcam.specs.Slots.{Cell, keepsS1}
+use Rattle.tcam.specs.Slots.{Cell}
 use Rattle.tcam.specs.Plans.{Write}
 use Rattle.tcam.specs.Applies.{writesIn, isWrong, writeFault, stored, applyFault, IsApplied}
 use Rattle.tcam.specs.Loops.{writeAt}

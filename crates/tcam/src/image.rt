@@ -4,10 +4,8 @@
 // length, whether one is free, whether one is below the pool. S5 compares a used slot with those
 // before it, and only where it breaks none of the other rules.
 ghost use mathlib.Core.Path.{_≡_};
-ghost use mathlib.Core.Bool.{cond, not, _||_, _&&_};
 ghost use Prim.Native.Nat.{_≤_, _<_};
 ghost use mathlib.Core.List.{[]};
-ghost use lib.Dec.{ltb};
 ghost use lib.ListN.{length};
 ghost use Rattle.route.specs.Lists.{any};
 ghost use Rattle.route.specs.Loops.{before};

@@ -356,9 +356,11 @@ pub fn plan_set(
     if let Check::Fault(f) = entry {
         return Counted::Refused(f);
     }
+    let n = length.0;
+    let h = hop.0;
     let c = Cell {
         address,
-        tag: length.0 * 65536 + hop.0,
+        tag: n * 65536 + h,
     };
     let place = find(addresses, tags, address, length);
     let Place::At(s) = place else {

@@ -6,7 +6,7 @@ use lib.Dec.{leb}
 use lib.ListN.{length}
 use Rattle.tcam.specs.Slots.{isFree, cells}
 use Rattle.tcam.specs.Shown.{cellOf, placeOf}
-use Rattle.tcam.specs.Loops.{edge, EdgesOf}
+use Rattle.tcam.specs.Loops.{edge}
 use Rattle.tcam.proofs.Chains.{edge-bound}
 use Rattle.tcam.proofs.Planned.{planned-refused, planned-same, set-full, set-chain}
 use Rattle.tcam.proofs.plan.insert.Statement.{statement}

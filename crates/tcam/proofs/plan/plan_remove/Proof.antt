@@ -1,9 +1,7 @@
 -- The tests in the definition's order; then the prefix is sought, and its entry removed.
 use borrow.Author.Needs.{needs}
-use Prim.Native.Nat.{_<_, _≤_}
-use mathlib.Core.Path.{_≡_, refl, sym, ap, _∙_}
-use mathlib.Core.Option.{some}
-use lib.ListN
+use Prim.Native.Nat.{_≤_}
+use mathlib.Core.Path.{sym, ap, _∙_}
 use Rattle.route.specs.Shown.{verdictOf}
 use Rattle.route.proofs.Accepted.{prefix-good}
 use Rattle.tcam.specs.Plans.{ofPrefix}

@@ -1,12 +1,11 @@
 -- The tests in the definition's order; then the prefix is sought, and joins or gets its new tag.
 use borrow.Author.Needs.{needs}
 use Prim.Native.Nat.{_<_, _≤_}
-use mathlib.Core.Path.{_≡_, sym, ap, _∙_}
+use mathlib.Core.Path.{sym, ap, _∙_}
 use mathlib.Core.Bool.{true}
 use native.Mathlib.Omega.{arith}
 use lib.ListN
 use Rattle.route.specs.Limits.{maxHop}
-use Rattle.route.specs.Rule.{route}
 use Rattle.route.specs.Refusals.{prefixFault}
 use Rattle.route.specs.Shown.{verdictOf}
 use Rattle.route.proofs.Accepted.{prefix-good, hop-good}
@@ -36,26 +35,26 @@ good c =
     let t = inTurn (prefixFault 32 0 (a .address) (a .length .0)) _ (sym (c .before .before .entry-check .ensures) ∙ ap verdictOf (c .enum-told2 .given .1)) in
     (prefix-good 32 0 (a .address) (a .length .0) (t .0) .0, hop-good 0 (a .hop .0) (t .1) .1)
 
-mul-t15 : tie.Need-mul-t15
-mul-t15 c = omega (arith, good (c .before) .0)
+mul-t17 : tie.Need-mul-t17
+mul-t17 c = omega (arith, good c .0)
 
-add-t16 : tie.Need-add-t16
-add-t16 c = omega (arith, good (c .before .before) .0, good (c .before .before) .1)
+add-t18 : tie.Need-add-t18
+add-t18 c = omega (arith, good c .0, good c .1)
 
 find-requires : tie.Need-find-requires
-find-requires c κs = rows (c .before .before .before .before .before) .equal
+find-requires c κs = rows (c .before .before .before) .equal
 
 insert-requires : tie.Need-insert-requires
 insert-requires c κs =
-    let t = c .before .before .before .before .before .before in
+    let t = c .before .before .before .before in
     (rows (t .before .before .before), good t .0)
 
 -- the slot that was found
 slot : (c : tie.After-known-told3) →
-    c .before .place .given .0 .0 .0 < ListN.length (c .before .before .before .before .before .before .before .before .before .before .before .before .before .before .before .args .addresses .now)
+    c .before .place .given .0 .0 .0 < ListN.length (c .before .before .before .before .before .before .before .before .before .before .before .before .before .args .addresses .now)
 slot c =
     let f = c .before .before .before in
-    let e = f .before .before .before .before .before .before in
+    let e = f .before .before .before .before in
     let a = e .before .before .before .before .before .before .args in
     edge-bound true (ofPrefix (a .address) (a .length .0)) (a .addresses .now) (a .tags .now) (rows e .equal) _
     (sym (ap placeOf (c .before .place .given .1)) ∙ f .find .ensures)
@@ -63,7 +62,7 @@ slot c =
 replace-requires : tie.Need-replace-requires
 replace-requires c κs =
     let k = c .before in
-    let e = k .before .before .before .before .before .before .before .before .before in
+    let e = k .before .before .before .before .before .before .before in
     (omega (arith, slot k, rows e .equal), omega (arith, rows e .equal, rows e .few))
 
 returns : tie.Need-returns
@@ -80,7 +79,7 @@ returns-3 c =
     let r = c .before .before in
     let k = r .before .before in
     let f = k .before .before in
-    let t = f .before .before .before in
+    let t = f .before in
     let p = t .before .before in
     let e = p .before in
     planned-same
@@ -92,7 +91,7 @@ returns-4 c =
     let r = c .before .before in
     let k = r .before .before in
     let f = k .before .before .before in
-    let t = f .before .before .before in
+    let t = f .before in
     let p = t .before .before in
     let e = p .before in
     let a = e .before .before .before .before .before .before .args in
@@ -105,6 +104,6 @@ plan-set-spec =
     tie.close
     (tie.spec
     (λ c κs. search needs) (λ c. search needs) returns (λ c. search needs) (λ c κs. search needs)
-    (λ c. search needs) returns-2 (λ c. search needs) mul-t15 add-t16 find-requires (λ c. search needs)
+    (λ c. search needs) returns-2 (λ c. search needs) mul-t17 add-t18 find-requires (λ c. search needs)
     (λ c. search needs) insert-requires (λ c. search needs) returns-3 replace-requires (λ c. search needs)
     returns-4)

@@ -1,9 +1,7 @@
 -- Nothing where the tag is the same, else one write in a row that has room.
 use borrow.Author.Needs.{needs}
-use mathlib.Core.Path.{_≡_, refl, ap}
-use mathlib.Core.Bool.{true, false, cond}
-use mathlib.Core.List.{List, [], _∷_}
-use lib.Dec.{eqb}
+use mathlib.Core.Path.{refl}
+use mathlib.Core.List.{[], _∷_}
 use Rattle.route.proofs.Tests.{tests}
 use Rattle.tcam.specs.Plans.{write}
 use Rattle.tcam.specs.Shown.{cellOf}

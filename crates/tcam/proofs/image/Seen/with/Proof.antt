@@ -1,7 +1,6 @@
 -- A free slot changes only `free`; a used one is the nearest.
 use borrow.Author.Needs.{needs}
-use mathlib.Core.Path.{refl, sym}
-use mathlib.Core.Bool.{Bool}
+use mathlib.Core.Path.{sym}
 use Rattle.tcam.proofs.image.Seen.with.Statement.{statement}
 use Rattle.tcam.proofs.image.Seen.with.Tie as tie
 

@@ -1,6 +1,5 @@
 -- Either way is a case of the definition.
 use borrow.Author.Needs.{needs}
-use native.Mathlib.Omega.{arith}
 use Rattle.tcam.proofs.plan.Run.first.Statement.{statement}
 use Rattle.tcam.proofs.plan.Run.first.Tie as tie
 

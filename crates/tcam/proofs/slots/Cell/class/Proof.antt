@@ -1,6 +1,5 @@
 -- The branch's test is the definition's.
 use borrow.Author.Needs.{needs}
-use mathlib.Core.Path.{sym, _∙_}
 use Rattle.tcam.proofs.slots.Cell.class.Statement.{statement}
 use Rattle.tcam.proofs.slots.Cell.class.Tie as tie
 

@@ -1,10 +1,8 @@
 -- Each way through the code is one way in which S1 is tested.
 use borrow.Author.Needs.{needs}
-use Prim.Native.Nat.{_%_}
-use mathlib.Core.Path.{_≡_, sym, ap, _∙_}
+use mathlib.Core.Path.{sym, _∙_}
 use mathlib.Core.Logic.{_≢_}
 use native.Mathlib.Omega.{arith}
-use lib.Dec.{eqb}
 use Rattle.tcam.specs.Slots.{hopIn}
 use Rattle.tcam.specs.Shown.{cellOf}
 use Rattle.tcam.proofs.Cells.{valid-hopless, valid-long, valid-short}
