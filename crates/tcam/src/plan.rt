@@ -16,7 +16,7 @@ ghost use lib.Seq.{sets};
 ghost use Rattle.route.specs.Refusals.{fine};
 ghost use Rattle.route.specs.Shown.{counted};
 ghost use Rattle.tcam.specs.Slots.{maxSlots, cells, slotFault};
-ghost use Rattle.tcam.specs.Plans.{firstSlot, ofPrefix, openAfter, isSome, chain, removeBy, removePresent, setAt, withRoom, write, numbers, planSet, planRemove, IsPlanned};
+ghost use Rattle.tcam.specs.Plans.{firstSlot, ofPrefix, openAfter, isSome, removeBy, removePresent, setAt, withRoom, write, numbers, planSet, planRemove, IsPlanned};
 ghost use Rattle.tcam.specs.Shown.{cellOf, placeOf};
 ghost use Rattle.tcam.specs.Loops.{slotIn, EdgesOf, visited, lengthAt, lengthsOf, runTo, moves, edgeOf, chainOf, ShorterBy, TableRows};
 use crate::Planned;
