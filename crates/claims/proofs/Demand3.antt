@@ -76,8 +76,8 @@ module _ (W M : ℕ) (i : 1 ≤ M) (j : M ≤ maxSlots) where
   }
   safe (applyPlan ∷ cs) = record { idles = λ t h. safe cs .idles t h; plans = λ p t u h g. (sound i j g, safe cs .idles u g) }
   safe (applyRefused row k ∷ cs) = record {
-    idles = λ t h f. (untouched W (t .image) row k f, safe cs .idles t h);
-    plans = λ p t u h g f. (untouched W (t .image) row k f, safe cs .plans p t u h g);
+    idles = λ t h. (untouched W (t .image) row k, safe cs .idles t h);
+    plans = λ p t u h g. (untouched W (t .image) row k, safe cs .plans p t u h g);
   }
 
 -- the empty table

@@ -2,8 +2,9 @@
 --
 -- A sequence is a list of calls: planned sets, planned removals, applies of an accepted plan, and applies that are refused. The claim is
 -- a type by recursion over that list. At each set or removal it says that the plan answers as the book does; that a refused one leaves
--- the table sound; and that an accepted one is bounded and right at every cut. At each apply it says that the table is sound again: the
--- image of the book, and a table of its set. No call stops the claim.
+-- the table sound; and that an accepted one is bounded and right at every cut. At each apply of a plan it says that the table is sound
+-- again: the image of the book, and a table of its set; at each refused apply, that the table is as it was. The claim goes on after
+-- every call.
 use Prim.Native.Nat.{ℕ, _+_, _-_, _/_, _≤_}
 use mathlib.Core.Path.{_≡_}
 use mathlib.Core.Logic.{_≢_}
@@ -28,7 +29,7 @@ pub data Call : Type 0 where
   remove : (a n : ℕ) (row : List ℕ) → Call
   -- apply the accepted plan that waits, whole, from the row as it was left; where none waits there is nothing to apply
   applyPlan : Call
-  -- apply anything that is refused
+  -- apply anything that is refused; what is not refused is no call of a sequence, and is not made
   applyRefused : (row : List ℕ) (k : ℕ) → Call
 
 -- a set without a prefix
@@ -136,9 +137,8 @@ abbrev pub PlanClaim : ℕ → ℕ → Table → List ℕ → (Table → State) 
 PlanClaim W M t row back rest r = (planAnswer (r .plan) ≡ r .booked .answer) × Outcome W M t row r back rest (r .plan)
 
 -- an apply that is refused leaves the table as it was
-abbrev pub RefusedApply : ℕ → Table → List ℕ → ℕ → Type 0 → Type 0
-RefusedApply W t row k rest =
-    applyFault W (addresses (t .image)) (tags (t .image)) row k ≢ fine → (after W (t .image) row k ≡ t .image) × rest
+abbrev pub RefusedApply : ℕ → Table → List ℕ → ℕ → Type 0
+RefusedApply W t row k = applyFault W (addresses (t .image)) (tags (t .image)) row k ≢ fine → after W (t .image) row k ≡ t .image
 
 -- the claim about the calls that are left, at each state
 abbrev pub Claim : ℕ → ℕ → List Call → State → Type 0
@@ -151,8 +151,8 @@ Claim W M (remove a n row ∷ cs) (planned p t t′) =
     PlanClaim W M t row (λ b. planned p b t′) (Claim W M cs) (removeRequest W M t a n (length row))
 Claim W M (applyPlan ∷ cs) (idle t) = Claim W M cs (idle t)
 Claim W M (applyPlan ∷ cs) (planned p t t′) = Sound W M t′ × Claim W M cs (idle t′)
-Claim W M (applyRefused row k ∷ cs) (idle t) = RefusedApply W t row k (Claim W M cs (idle t))
-Claim W M (applyRefused row k ∷ cs) (planned p t t′) = RefusedApply W t row k (Claim W M cs (planned p t t′))
+Claim W M (applyRefused row k ∷ cs) (idle t) = RefusedApply W t row k × Claim W M cs (idle t)
+Claim W M (applyRefused row k ∷ cs) (planned p t t′) = RefusedApply W t row k × Claim W M cs (planned p t t′)
 
 abbrev pub Demand3 : ℕ → Type 0
 Demand3 W =
