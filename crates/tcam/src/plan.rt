@@ -258,7 +258,8 @@ fn plan_chain(
     Counted::Count(writes)
 }
 
-// The same where the entry of slot `edge` goes to slot s first, and the chain ends with a free slot.
+// The writes that take the entry of slot s out: that of slot `edge` goes there first, unless it is
+// the same slot, and the chain from there ends with a free slot.
 fn plan_gap(
     addresses: &[u32],
     tags: &[u32],
@@ -286,7 +287,8 @@ fn plan_gap(
     Counted::Count(total)
 }
 
-// The plan that sets the absent prefix of c, whose length is n: the slots between n and the pool make room.
+// The plan that sets the absent prefix of c, whose length is n: the lengths between n and the pool
+// make room.
 fn insert(addresses: &[u32], tags: &[u32], n: Length, c: Cell, plan: &mut [u32]) -> Planned
     requires { ⌜ TableRows 32 (now addresses) (now tags) × (n .0 ≤ 32) ⌝ }
     ensures { λ r. ⌜ IsPlanned (setAt 32 (cells (now (addresses .entry)) (now (tags .entry))) (n .0) (cellOf c) (length (now (plan .entry))) none) (now (plan .entry)) (counted r) (now (plan .exit)) ⌝ }
