@@ -1,21 +1,53 @@
--- Demand 2 holds of the list and of the slots: the routes are a set, whose longest match is right, and is what both answer.
-use Prim.Native.Nat.{ℕ}
+-- Demand 2 holds of the list, of the slots and of the merged ranges: the routes are a set, whose longest match is right, and is what all
+-- of them answer.
+use Prim.Native.Nat.{ℕ, _^_, _≤_, _<_}
+use mathlib.Core.Path.{refl, subst⁻¹}
 use mathlib.Core.List.{List}
+use lib.ListN.{length}
+use Rattle.route.specs.Limits.{maxRoutes}
+use Rattle.route.specs.Rule.{answer}
 use Rattle.route.specs.Lists.{routes}
 use Rattle.route.specs.RowsOfSet.{RowsOfSet}
 use Rattle.route.proofs.RouteSet.{RouteSet, routeSet}
 use Rattle.route.proofs.Accepted.{rowsOfSet}
+use Rattle.route.proofs.Entries.{routes-length, routes-addresses}
 use Rattle.route.proofs.LongestMatch.{right, only}
 use Rattle.tcam.proofs.SlotsAgree.{slotsAgree}
-use Rattle.claims.specs.Agreement.{Demand2}
+use Rattle.ranges.proofs.Boundaries.{Placed}
+use Rattle.ranges.proofs.RangesAgree.{rangesAgree, rangesBelow, rangesSmall, rangesFew, rangesFewer}
+use Rattle.claims.specs.Agreement.{Addresses, Agree, Fits, Demand2}
 
 module _ (W : ℕ) (ad ns hs : List ℕ) (s : RowsOfSet W ad ns hs) where
   set : RouteSet W (routes ad ns hs)
   set = routeSet W (routes ad ns hs) (s .valid) (s .distinct)
 
+  few : length (routes ad ns hs) ≤ maxRoutes
+  few = subst⁻¹ (λ n. n ≤ maxRoutes) (routes-length ad ns hs (s .equal)) (s .few)
+
+  placed : Addresses W ad → Placed W (routes ad ns hs)
+  placed small = routes-addresses (λ a. a < 2 ^ W) ad ns hs small
+
+  agree : (q : ℕ) → Agree W ad ns hs q (answer W (routes ad ns hs) q)
+  agree q = record {
+    right = right W (routes ad ns hs) q set;
+    list = rw (rowsOfSet W ad ns hs .1 s);
+    slots = slotsAgree W (routes ad ns hs) q set;
+    ranges = λ small below. rangesAgree W (routes ad ns hs) (s .valid) (placed small) q below few;
+  }
+
+  fits : Addresses W ad → Fits W (routes ad ns hs)
+  fits small = record {
+    starts = rangesBelow W (routes ad ns hs) (s .valid) (placed small);
+    hops = rangesSmall W (routes ad ns hs) (s .valid) (placed small);
+    few = rangesFew W (routes ad ns hs);
+    fewer = λ r m e. rangesFewer W (routes ad ns hs) r m (s .valid r m) e (placed small r m);
+  }
+
 pub demand2 : Demand2
 demand2 = record {
   premise = rowsOfSet;
-  agree = λ W ad ns hs s q. record { right = right W (routes ad ns hs) q (set W ad ns hs s); list = rw (rowsOfSet W ad ns hs .1 s); slots = slotsAgree W (routes ad ns hs) q (set W ad ns hs s) };
+  agree = agree;
   only = λ W ad ns hs s q. only W (routes ad ns hs) q (set W ad ns hs s);
+  fits = fits;
+  empty = λ W. refl;
 }

@@ -1,29 +1,48 @@
 -- Demand 2: every structure built from one set of prefixes gives, for every address, the next hop of the longest matching prefix, and
--- none exactly where no prefix matches. These are its first parts, the list and the slots, for every width W.
-use Prim.Native.Nat.{ℕ, _≤_}
+-- none exactly where no prefix matches. These are its parts for the list, the slots and the merged ranges, for every width W.
+use Prim.Native.Nat.{ℕ, _+_, _-_, _*_, _^_, _≤_, _<_}
 use mathlib.Core.Path.{_≡_}
 use mathlib.Core.Logic.{_↔_}
-use mathlib.Core.List.{List}
+use mathlib.Core.List.{List, [], _∷_}
 use lib.ListN.{length}
 use Rattle.route.specs.Rule.{Route, answer}
 use Rattle.route.specs.Refusals.{fine, value}
 use Rattle.route.specs.RightHop.{_∈_, Right}
 use Rattle.route.specs.Lists.{routes, rowsFault, listLookup}
+use Rattle.route.specs.Limits.{maxHop}
 use Rattle.route.specs.RowsOfSet.{Valid, Distinct, RowsOfSet}
 use Rattle.tcam.specs.Slots.{maxSlots, Cell, slotLookup}
 use Rattle.tcam.specs.Tables.{addresses, tags, TableOf}
+use Rattle.ranges.specs.Ranges.{range, rangesOf, startsOf, hopsOf, rangeLookup}
 
--- the answer h for q is right, the list gives it, and so do the slots of every table of the set
+-- every address of a row is one of W bits
+abbrev pub Addresses : ℕ → List ℕ → Type 0
+Addresses W ad = (a : ℕ) → a ∈ ad → a < 2 ^ W
+
+-- the answer h for q is right, the list gives it, so do the slots of every table of the set, and so do its merged ranges
 pub record Agree (W : ℕ) (ad ns hs : List ℕ) (q h : ℕ) : Type 0 where
   pub right : Right W (routes ad ns hs) q h
   pub list : listLookup W ad ns hs q ≡ value h
   pub slots : (addresses tags : List ℕ) → TableOf W (routes ad ns hs) addresses tags → slotLookup W addresses tags q ≡ value h
+  pub ranges : Addresses W ad → q < 2 ^ W →
+      rangeLookup (startsOf (rangesOf W (routes ad ns hs))) (hopsOf (rangesOf W (routes ad ns hs))) q ≡ value h
 
--- the lists that are accepted are those of a set; such a list answers every address, right; and no other answer is right
+-- what is built from a set fits its rows: starts of W bits, no hop over the limit; P routes give at most 2P + 1 ranges, at most 2P - 1 if
+-- length 0 is among them
+pub record Fits (W : ℕ) (rs : List Route) : Type 0 where
+  pub starts : (x : ℕ) → x ∈ startsOf (rangesOf W rs) → x < 2 ^ W
+  pub hops : (x : ℕ) → x ∈ hopsOf (rangesOf W rs) → x ≤ maxHop
+  pub few : length (rangesOf W rs) ≤ 2 * length rs + 1
+  pub fewer : (r : Route) → r ∈ rs → r .length ≡ 0 → length (rangesOf W rs) ≤ 2 * length rs - 1
+
+-- the lists that are accepted are those of a set; such a list answers every address, right; no other answer is right; what is built from
+-- it fits; and of no routes at all it is one range without a hop
 pub record Demand2 : Type 0 where
   pub premise : (W : ℕ) (ad ns hs : List ℕ) → (rowsFault W ad ns hs ≡ fine) ↔ RowsOfSet W ad ns hs
   pub agree : (W : ℕ) (ad ns hs : List ℕ) → RowsOfSet W ad ns hs → (q : ℕ) → Agree W ad ns hs q (answer W (routes ad ns hs) q)
   pub only : (W : ℕ) (ad ns hs : List ℕ) → RowsOfSet W ad ns hs → (q h : ℕ) → Right W (routes ad ns hs) q h → h ≡ answer W (routes ad ns hs) q
+  pub fits : (W : ℕ) (ad ns hs : List ℕ) → RowsOfSet W ad ns hs → Addresses W ad → Fits W (routes ad ns hs)
+  pub empty : (W : ℕ) → rangesOf W [] ≡ range 0 0 ∷ []
 
 -- a set of at most M valid routes has a table of M slots, got by setting them one by one; so there are tables for `slots` of `Agree`
 abbrev pub HasTable : ℕ → Type 0

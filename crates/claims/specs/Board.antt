@@ -1,6 +1,7 @@
 -- The board cases that are to be proved, in one list: what the definitions give, and what is expected. proofs/Board has the one proof.
 --
--- Each is a row of numbers. The plain answer is one number. A table is shown slot by slot; a plan as its own numbers, three to a write.
+-- Each is a row of numbers. The plain answer is one number. A table is shown slot by slot; a plan as its own numbers, three to a write; a
+-- range as its start and its hop.
 use Prim.Native.Nat.{ℕ, _+_, _*_}
 use mathlib.Core.List.{List, [], _∷_, _++_, map}
 use lib.ListN.{length, replicate}
@@ -12,6 +13,7 @@ use Rattle.tcam.specs.Tables.{addresses, tags}
 use Rattle.tcam.specs.Plans
 use Rattle.tcam.specs.Plans.{Write, Planned, refuses, writes, planSet, planRemove}
 use Rattle.tcam.specs.Applies.{written}
+use Rattle.ranges.specs.Ranges.{Range, rangesOf}
 use Rattle.claims.specs.Sequence.{mostToSet, mostToRemove}
 
 -- an address by its four octets
@@ -63,7 +65,12 @@ abbrev pub shownSlots : List Cell → List ℕ
 shownSlots [] = []
 shownSlots (c ∷ cs) = c .address ∷ lengthIn c ∷ hopIn c ∷ shownSlots cs
 
--- cases a to d, e, f, g; then the most writes of a set and of a removal over 32 bits
+-- the ranges of a table: start and hop of each
+abbrev pub shownRanges : List Range → List ℕ
+shownRanges [] = []
+shownRanges (r ∷ rs) = r .start ∷ r .hop ∷ shownRanges rs
+
+-- cases a to d, e, f, g, h; then the most writes of a set and of a removal over 32 bits
 abbrev pub got : List (List ℕ)
 got =
     found setP (ip 10 20 4 9)
@@ -74,6 +81,7 @@ got =
     ∷ counts (replicate 8 free) setP
     ∷ shownSlots eightSlots
     ∷ Plans.numbers (removeWrites eightSlots (ip 10 20 4 0) 24)
+    ∷ shownRanges (rangesOf 32 setP)
     ∷ (mostToSet 32 ∷ mostToRemove 32 ∷ [])
     ∷ []
 
@@ -89,5 +97,7 @@ expected =
     ∷ 0 ∷ 0 ∷ 0 ∷ 0 ∷ 0 ∷ 0 ∷ 0 ∷ 0 ∷ 0
     ∷ ip 10 0 0 0 ∷ 8 ∷ 1 ∷ 0 ∷ 0 ∷ 7 ∷ [])
     ∷ (1 ∷ ip 10 20 0 0 ∷ (16 * 65536 + 2) ∷ 2 ∷ 0 ∷ 0 ∷ [])
+    ∷ (0 ∷ 7 ∷ ip 10 0 0 0 ∷ 1 ∷ ip 10 20 0 0 ∷ 2 ∷ ip 10 20 4 0 ∷ 3 ∷ ip 10 20 4 9 ∷ 2
+    ∷ ip 10 20 4 10 ∷ 3 ∷ ip 10 20 5 0 ∷ 2 ∷ ip 10 21 0 0 ∷ 1 ∷ ip 11 0 0 0 ∷ 7 ∷ [])
     ∷ (17 ∷ 18 ∷ [])
     ∷ []

@@ -9,6 +9,8 @@ ghost use Rattle.route.specs.Lists.{listCheck, listLookup};
 ghost use Rattle.tcam.specs.Slots.{slotCheck, slotLookup};
 ghost use Rattle.tcam.specs.Plans.{planSet, planRemove, planAnswer, rowAfter};
 ghost use Rattle.tcam.specs.Applies.{applyAnswer, appliedAddresses, appliedTags};
+ghost use Rattle.ranges.specs.Ranges.{rangeLookup};
+ghost use Rattle.ranges.specs.Builds.{rangesAnswer, builtStarts, builtHops};
 ghost use lib.ListN;
 use route::Counted;
 use route::Found;
@@ -103,6 +105,30 @@ pub extern "C" fn hawkmortar_apply(
     ensures { λ r. ⌜ now (tags .exit) ≡ appliedTags 32 (now (addresses .entry)) (now (tags .entry)) (now (plan .entry)) k ⌝ }
 {
     of_counted(tcam::apply::apply(addresses, tags, plan, k))
+}
+
+// Builds the merged ranges of a list in the front of two rows; the value is how many there are.
+#[no_mangle]
+pub extern "C" fn hawkmortar_ranges_build(
+    addresses: &[u32],
+    lengths: &[u32],
+    hops: &[u32],
+    starts: &mut [u32],
+    range_hops: &mut [u32],
+) -> Outcome
+    ensures { λ r. ⌜ r ≡ outcome (rangesAnswer 32 (now (addresses .entry)) (now (lengths .entry)) (now (hops .entry)) (ListN.length (now (starts .entry))) (ListN.length (now («range_hops» .entry)))) ⌝ }
+    ensures { λ r. ⌜ now (starts .exit) ≡ builtStarts 32 (now (addresses .entry)) (now (lengths .entry)) (now (hops .entry)) (now (starts .entry)) (now («range_hops» .entry)) ⌝ }
+    ensures { λ r. ⌜ now («range_hops» .exit) ≡ builtHops 32 (now (addresses .entry)) (now (lengths .entry)) (now (hops .entry)) (now (starts .entry)) (now («range_hops» .entry)) ⌝ }
+{
+    of_counted(ranges::build::build(addresses, lengths, hops, starts, range_hops))
+}
+
+// Looks q up in a range table; the value is the next hop, 0 for none.
+#[no_mangle]
+pub extern "C" fn hawkmortar_range_lookup(starts: &[u32], range_hops: &[u32], q: u32) -> Outcome
+    ensures { λ r. ⌜ r ≡ outcome (rangeLookup (now (starts .entry)) (now («range_hops» .entry)) q) ⌝ }
+{
+    of_found(ranges::lookup::lookup(starts, range_hops, q))
 }
 
 // An accepted call's value.

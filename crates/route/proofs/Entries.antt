@@ -1,16 +1,18 @@
 -- The loops over the entries of a list: what each has found at entry i, and that a turn keeps it.
-use Prim.Native.Nat.{ℕ, suc, _+_, _-_, _≤_, _<_}
-use mathlib.Core.Path.{_≡_, ap}
+use Prim.Native.Nat.{ℕ, zero, suc, _+_, _-_, _≤_, _<_}
+use mathlib.Core.Path.{_≡_, refl, ap}
 use mathlib.Core.Bool.{Bool, true, false}
-use mathlib.Core.List.{List, [], _∷_}
+use mathlib.Core.List.{List, [], _∷_, List·Memᴰ·head, List·Memᴰ·tail, List·Memᴰ·not-nil}
 use native.Mathlib.Omega.{arith}
 use native.Mathlib.Numerals.{add-one}
-use lib.ListN.{length, drop, drop-of-length-le}
+use lib.ListN.{length, drop, getD, drop-of-length-le}
 use lib.Seq.{drop-cons, drop-length}
-use Rattle.route.specs.Rule.{Route, matches, Match, nothing, improved, longest}
+use Rattle.route.specs.Rule.{Route, route, matches, Match, nothing, improved, longest}
 use Rattle.route.specs.Refusals.{fine, fault, faultIf, _then_, entryFault, twiceRefusal}
 use Rattle.route.specs.Lists.{EqualRows, routes, hasPrefix, listFault}
+use Rattle.route.specs.RightHop.{_∈_}
 use Rattle.route.specs.Loops.{before, routeAt}
+use Rattle.route.proofs.Members.{eachOf}
 
 -- the entries from entry i on begin with entry i
 pub routes-at : (ad ns hs : List ℕ) (i : ℕ) → EqualRows ad ns hs → i < length ad →
@@ -20,6 +22,33 @@ routes-at ad ns hs i e l =
     let m : i < length ns = omega arith in
     let n : i < length hs = omega arith in
     rw (add-one, drop-cons ad i 0, drop-cons ns i 0, drop-cons hs i 0)
+
+-- as many routes as entries, in the same places
+pub routes-length : (ad ns hs : List ℕ) → EqualRows ad ns hs → length (routes ad ns hs) ≡ length ad
+routes-length [] ns hs e = refl
+routes-length (a ∷ ad) [] hs e = absurd (omega (arith, e .second))
+routes-length (a ∷ ad) (n ∷ ns) [] e = absurd (omega (arith, e .third))
+routes-length (a ∷ ad) (n ∷ ns) (h ∷ hs) e =
+    ap suc (routes-length ad ns hs (record { second = omega (arith, e .second); third = omega (arith, e .third) }))
+
+pub routes-get : (ad ns hs : List ℕ) (i : ℕ) → EqualRows ad ns hs → getD (routes ad ns hs) i (route 0 0 0) ≡ routeAt ad ns hs i
+routes-get [] [] [] i e = refl
+routes-get [] (n ∷ ns) hs i e = absurd (omega (arith, e .second))
+routes-get [] [] (h ∷ hs) i e = absurd (omega (arith, e .third))
+routes-get (a ∷ ad) [] hs i e = absurd (omega (arith, e .second))
+routes-get (a ∷ ad) (n ∷ ns) [] i e = absurd (omega (arith, e .third))
+routes-get (a ∷ ad) (n ∷ ns) (h ∷ hs) zero e = refl
+routes-get (a ∷ ad) (n ∷ ns) (h ∷ hs) (suc i) e =
+    routes-get ad ns hs i (record { second = omega (arith, e .second); third = omega (arith, e .third) })
+
+-- what holds of every address of the row holds of every route's
+pub routes-addresses : (P : ℕ → Type 0) (ad ns hs : List ℕ) → ((a : ℕ) → a ∈ ad → P a) → (r : Route) → r ∈ routes ad ns hs → P (r .address)
+routes-addresses P [] ns hs k = λ r m. absurd (List·Memᴰ·not-nil m)
+routes-addresses P (a ∷ ad) [] hs k = λ r m. absurd (List·Memᴰ·not-nil m)
+routes-addresses P (a ∷ ad) (n ∷ ns) [] k = λ r m. absurd (List·Memᴰ·not-nil m)
+routes-addresses P (a ∷ ad) (n ∷ ns) (h ∷ hs) k =
+    eachOf {P = λ (r : Route). P (r .address)} (route a n h) (routes ad ns hs) (k a (List·Memᴰ·head refl))
+    (routes-addresses P ad ns hs (λ x m. k x (List·Memᴰ·tail m)))
 
 -- the search from the end: m is the longest match of the entries from entry i on
 pub record LongestFrom (W : ℕ) (ad ns hs : List ℕ) (q : ℕ) (m : Match) (i : ℕ) : Type 0 where

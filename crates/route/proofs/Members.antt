@@ -1,7 +1,9 @@
 -- Members of a list: one that passes a test, what holds of each.
+use Prim.Native.Nat.{ℕ, zero, suc}
 use mathlib.Core.Path.{_≡_, subst⁻¹}
 use mathlib.Core.Bool.{Bool, true, or-true}
-use mathlib.Core.List.{List, _∷_, List·Memᴰ·head, List·Memᴰ·tail}
+use mathlib.Core.List.{List, [], _∷_, List·Memᴰ·head, List·Memᴰ·tail, List·Memᴰ·not-nil}
+use lib.ListN.{getD}
 use Rattle.route.specs.RightHop.{_∈_}
 use Rattle.route.specs.Lists.{any}
 
@@ -14,3 +16,8 @@ module _ {A : Type 0} where
   pub eachOf : {P : A → Type 0} (x : A) (xs : List A) → P x → ((y : A) → y ∈ xs → P y) → (y : A) → y ∈ (x ∷ xs) → P y
   eachOf {P} x xs h k y (List·Memᴰ·head e) = subst⁻¹ P e h
   eachOf x xs h k y (List·Memᴰ·tail m) = k y m
+
+-- of the number at each place, so of each member
+pub eachAt : (P : ℕ → Type 0) (xs : List ℕ) → ((i : ℕ) → P (getD xs i 0)) → (x : ℕ) → x ∈ xs → P x
+eachAt P [] k = λ x m. absurd (List·Memᴰ·not-nil m)
+eachAt P (x ∷ xs) k = eachOf {P = P} x xs (k zero) (eachAt P xs (λ i. k (suc i)))

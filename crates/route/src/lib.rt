@@ -10,8 +10,8 @@ pub mod list;
 pub mod rule;
 
 ghost use mathlib.Core.Path.{_≡_};
-ghost use Rattle.route.specs.Refusals.{_then_};
-ghost use Rattle.route.specs.Shown.{number, place, verdictOf};
+ghost use Rattle.route.specs.Refusals.{_then_, value};
+ghost use Rattle.route.specs.Shown.{number, place, verdictOf, shown};
 
 // The most entries of a list.
 pub const MAX_ROUTES: usize = 4096;
@@ -81,6 +81,18 @@ impl Check {
             Check::Fault(f) => Check::Fault(f),
             Check::Fine => next,
         }
+    }
+}
+
+impl Found {
+    // What a table's number for a hop says: 0 is none.
+    pub fn of_number(hop: u32) -> Found
+        ensures { λ r. ⌜ shown r ≡ value hop ⌝ }
+    {
+        if hop == 0 {
+            return Found::Nothing;
+        }
+        Found::Via(Hop(hop))
     }
 }
 
