@@ -28,6 +28,9 @@ extern "C" {
 /* The most slots of a table; the least is 1. */
 #define HAWKMORTAR_MAX_SLOTS 4096
 
+/* The most ranges of a table; the least is 1. */
+#define HAWKMORTAR_MAX_RANGES 8193
+
 /* The most writes of a plan that sets a prefix, and of one that removes it; a write is three numbers. */
 #define HAWKMORTAR_MAX_SET_WRITES 17
 #define HAWKMORTAR_MAX_REMOVE_WRITES 18
@@ -136,6 +139,37 @@ struct hawkmortar_outcome hawkmortar_apply(
     uint32_t *tags, size_t tags_len,
     const uint32_t *plan, size_t plan_len,
     size_t k);
+
+/*
+ * Ranges: two rows, of starts and next hops, hop 0 being none. The first range starts at 0, each range ends
+ * just before the next start, the last at 255.255.255.255, and neighbouring ranges have different hops.
+ */
+
+/*
+ * Builds the range table of a list.
+ * Value: the number of ranges, at most twice the entries plus 1. They stand at the front of starts and
+ * range_hops, which may differ in length. The rest of both is left as it was.
+ * Refusals: as of hawkmortar_list_check; 9 where starts or range_hops has fewer numbers than there are
+ * ranges.
+ */
+struct hawkmortar_outcome hawkmortar_ranges_build(
+    const uint32_t *addresses, size_t addresses_len,
+    const uint32_t *lengths, size_t lengths_len,
+    const uint32_t *hops, size_t hops_len,
+    uint32_t *starts, size_t starts_len,
+    uint32_t *range_hops, size_t range_hops_len);
+
+/*
+ * Looks the address q up in a range table.
+ * Value: the next hop of the last range that starts at or below q, 0 where that is none.
+ * Refusals: 8 for rows of unequal length or more than 8,193 ranges; 7, the place being the first range that
+ * breaks a rule: a start that is not 0 for the first range or not above the start before for another, the
+ * hop of the range before, or a hop over 65,535. No ranges at all are refused with 7 at place 0.
+ */
+struct hawkmortar_outcome hawkmortar_range_lookup(
+    const uint32_t *starts, size_t starts_len,
+    const uint32_t *range_hops, size_t range_hops_len,
+    uint32_t q);
 
 #ifdef __cplusplus
 }

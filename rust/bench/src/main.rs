@@ -5,16 +5,17 @@
 
 mod plain;
 
+use second::random::{Random, Rows};
 use std::hint::black_box;
 use std::time::{Duration, Instant};
 
 const ROUNDS: usize = 41;
 
-/// The least time that `run` took for `calls` calls in any round, for the proved code and for plain Rust.
-fn compare(name: &str, calls: u32, mut proved: impl FnMut(), mut plain: impl FnMut()) {
+/// The nanoseconds of a call, by the least time that `calls` calls took in any round, of each of two.
+fn least(calls: u32, mut one: impl FnMut(), mut other: impl FnMut()) -> [f64; 2] {
     let mut least = [Duration::MAX; 2];
     for _ in 0..ROUNDS {
-        for (least, run) in least.iter_mut().zip([&mut proved as &mut dyn FnMut(), &mut plain]) {
+        for (least, run) in least.iter_mut().zip([&mut one as &mut dyn FnMut(), &mut other]) {
             let start = Instant::now();
             for _ in 0..calls {
                 run();
@@ -22,7 +23,12 @@ fn compare(name: &str, calls: u32, mut proved: impl FnMut(), mut plain: impl FnM
             *least = start.elapsed().min(*least);
         }
     }
-    let [proved, plain] = least.map(|time| time.as_nanos() as f64 / f64::from(calls));
+    least.map(|time| time.as_nanos() as f64 / f64::from(calls))
+}
+
+/// A line of the proved code and of plain Rust.
+fn compare(name: &str, calls: u32, proved: impl FnMut(), plain: impl FnMut()) {
+    let [proved, plain] = least(calls, proved, plain);
     println!("{name:<32} {proved:>12.1} {plain:>12.1} {:>8.2}", proved / plain);
 }
 
@@ -45,6 +51,13 @@ fn main() {
     for slots in [64, 1024, 4096] {
         apply(slots, 20_000);
     }
+    for (entries, calls) in [(16, 2000), (256, 100), (4096, 2)] {
+        range_build(entries, calls);
+    }
+    for (entries, calls) in [(16, 20_000), (256, 2000), (4096, 200)] {
+        range_lookup(entries, calls);
+    }
+    build_beside_check(4096, 2);
 }
 
 fn list(entries: u32, calls: u32) {
@@ -206,4 +219,98 @@ fn apply(slots: u32, calls: u32) {
         },
     );
     assert_eq!(proved, plain);
+}
+
+/// Routes as a router has them: most of length 24, some shorter, to 8, and some longer, inside eight blocks of length 8.
+fn routes(entries: usize) -> Rows {
+    let prefix = |random: &mut Random| {
+        let length = match random.below(16) {
+            0..=9 => 24,
+            10..=13 => 8 + random.below(16),
+            _ => 25 + random.below(8),
+        };
+        (length as u32, random.number() as u32 & 0x07ff_ffff)
+    };
+    Rows::distinct(&mut Random::new(1), entries, prefix, |random| {
+        1 + random.below(65_535) as u32
+    })
+}
+
+/// Two rows with room for the ranges of any list of so many entries.
+fn room(entries: usize) -> (Vec<u32>, Vec<u32>) {
+    (vec![0; 2 * entries + 1], vec![0; 2 * entries + 1])
+}
+
+fn proved_build(list: &Rows, rows: &mut (Vec<u32>, Vec<u32>)) -> Result<usize, hawkmortar::Refusal> {
+    hawkmortar::ranges::build(&list.addresses, &list.lengths, &list.hops, &mut rows.0, &mut rows.1)
+}
+
+fn plain_build(list: &Rows, rows: &mut (Vec<u32>, Vec<u32>)) -> Result<usize, plain::Fault> {
+    plain::ranges::build(&list.addresses, &list.lengths, &list.hops, &mut rows.0, &mut rows.1)
+}
+
+fn range_build(entries: usize, calls: u32) {
+    let list = routes(entries);
+    let (mut proved, mut plain) = (room(entries), room(entries));
+    assert_eq!(
+        proved_build(&list, &mut proved).ok(),
+        plain_build(&list, &mut plain).ok()
+    );
+    assert_eq!(proved, plain);
+    compare(
+        &format!("range build, {entries} entries"),
+        calls,
+        || {
+            let _ = black_box(proved_build(black_box(&list), black_box(&mut proved)));
+        },
+        || {
+            let _ = black_box(plain_build(black_box(&list), black_box(&mut plain)));
+        },
+    );
+}
+
+/// The first address of the range in the middle.
+fn range_lookup(entries: usize, calls: u32) {
+    let mut rows = room(entries);
+    let ranges = proved_build(&routes(entries), &mut rows).expect("there is room");
+    let (starts, hops) = (&rows.0[..ranges], &rows.1[..ranges]);
+    let q = starts[ranges / 2];
+    assert_eq!(
+        hawkmortar::ranges::lookup(starts, hops, q).map(|hop| hop.map_or(0, |hop| hop.get().into())),
+        plain::ranges::lookup(starts, hops, q).map_err(|_| unreachable!("the ranges are good")),
+    );
+    compare(
+        &format!("range lookup, {ranges} ranges"),
+        calls,
+        || {
+            let _ = black_box(hawkmortar::ranges::lookup(
+                black_box(starts),
+                black_box(hops),
+                black_box(q),
+            ));
+        },
+        || {
+            let _ = black_box(plain::ranges::lookup(black_box(starts), black_box(hops), black_box(q)));
+        },
+    );
+}
+
+/// What a build takes beside the test of its list, most of which is the repeat test.
+fn build_beside_check(entries: usize, calls: u32) {
+    let list = routes(entries);
+    let mut rows = room(entries);
+    let [build, check] = least(
+        calls,
+        || {
+            let _ = black_box(proved_build(black_box(&list), black_box(&mut rows)));
+        },
+        || {
+            let list = black_box(&list);
+            let _ = black_box(hawkmortar::list::check(&list.addresses, &list.lengths, &list.hops));
+        },
+    );
+    println!(
+        "range build, {entries} entries, {build:.1} ns: {:.3} times the repeat test, {check:.1} ns",
+        build / check
+    );
 }

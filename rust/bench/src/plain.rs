@@ -1,5 +1,6 @@
 //! The same checked work in plain Rust.
 
+pub mod ranges;
 pub mod slots;
 
 /// A refusal's number and place.

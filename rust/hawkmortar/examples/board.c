@@ -1,7 +1,8 @@
 /*
  * The board's set P from C. First the list: each answer on a line, then the outcome of a list with a repeated prefix.
  * Then case f, sets in 8 slots: each plan's outcome, and the image. Then case g, a removal: the plan's outcome, the
- * answer for 10.20.4.10 after each number of its writes, and the image.
+ * answer for 10.20.4.10 after each number of its writes, and the image. Then case h, ranges: the outcome of a build
+ * with a cell of room too few, that of a build with room for all, the ranges, and each answer on a line.
  */
 #include <inttypes.h>
 #include <stdio.h>
@@ -10,10 +11,17 @@
 
 #define ENTRIES 5
 #define SLOTS 8
+#define KEYS 4
+#define RANGES 9
 
 static uint32_t slot_addresses[SLOTS];
 static uint32_t slot_tags[SLOTS];
 static uint32_t plan[3 * HAWKMORTAR_MAX_REMOVE_WRITES];
+static uint32_t starts[RANGES];
+static uint32_t range_hops[HAWKMORTAR_MAX_RANGES];
+
+static const uint32_t lengths[ENTRIES] = {8, 16, 24, 32, 0};
+static const uint32_t hops[ENTRIES] = {1, 2, 3, 2, 7};
 
 static uint32_t ip(uint32_t a, uint32_t b, uint32_t c, uint32_t d)
 {
@@ -32,15 +40,34 @@ static void show_image(void)
         printf("%zu %08" PRIx32 " %08" PRIx32 "\n", slot, slot_addresses[slot], slot_tags[slot]);
 }
 
+static struct hawkmortar_outcome build(const uint32_t *addresses, size_t room)
+{
+    return hawkmortar_ranges_build(addresses, ENTRIES, lengths, ENTRIES, hops, ENTRIES, starts, room, range_hops,
+                                   HAWKMORTAR_MAX_RANGES);
+}
+
+static int show_ranges(const uint32_t *addresses, const uint32_t *keys)
+{
+    show(build(addresses, RANGES - 1));
+    struct hawkmortar_outcome built = build(addresses, RANGES);
+    show(built);
+    if (built.refusal != 0)
+        return 1;
+    size_t ranges = (size_t)built.value;
+    for (size_t i = 0; i < ranges; i++)
+        printf("%08" PRIx32 " %" PRIu32 "\n", starts[i], range_hops[i]);
+    for (size_t i = 0; i < KEYS; i++)
+        show(hawkmortar_range_lookup(starts, ranges, range_hops, ranges, keys[i]));
+    return 0;
+}
+
 int main(void)
 {
     const uint32_t addresses[ENTRIES] = {ip(10, 0, 0, 0), ip(10, 20, 0, 0), ip(10, 20, 4, 0), ip(10, 20, 4, 9), 0};
-    const uint32_t lengths[ENTRIES] = {8, 16, 24, 32, 0};
-    const uint32_t hops[ENTRIES] = {1, 2, 3, 2, 7};
-    const uint32_t keys[] = {ip(10, 20, 4, 9), ip(10, 20, 4, 10), ip(10, 20, 5, 0), ip(255, 255, 255, 255)};
+    const uint32_t keys[KEYS] = {ip(10, 20, 4, 9), ip(10, 20, 4, 10), ip(10, 20, 5, 0), ip(255, 255, 255, 255)};
     const uint32_t twice[2] = {0, 0};
 
-    for (size_t i = 0; i < sizeof keys / sizeof keys[0]; i++) {
+    for (size_t i = 0; i < KEYS; i++) {
         show(hawkmortar_list_lookup(addresses, ENTRIES, lengths, ENTRIES, hops, ENTRIES, keys[i]));
     }
     show(hawkmortar_list_check(twice, 2, twice, 2, hops, 2));
@@ -67,5 +94,5 @@ int main(void)
         show(hawkmortar_slot_lookup(slot_addresses, SLOTS, slot_tags, SLOTS, ip(10, 20, 4, 10)));
     }
     show_image();
-    return 0;
+    return show_ranges(addresses, keys);
 }

@@ -1,7 +1,7 @@
-//! The board's set P: the list asked for the addresses of cases a to e, then case f, the sets in 8 slots, and case g, the
-//! removal of the /24 write by write: `cargo run --release --example board`.
+//! The board's set P: the list asked for the addresses of cases a to e, then case f, the sets in 8 slots, case g, the removal of
+//! the /24 write by write, and case h, the ranges: `cargo run --release --example board`.
 
-use hawkmortar::{list, NextHop, Prefix, Refusal, Table};
+use hawkmortar::{list, NextHop, Prefix, RangeTable, Refusal, Table};
 use std::net::Ipv4Addr;
 
 /// Octets, length and hop.
@@ -16,7 +16,8 @@ const SET: [([u8; 4], u32, u16); 5] = [
 fn main() -> Result<(), Refusal> {
     cases_a_to_e()?;
     let mut table = case_f()?;
-    case_g(&mut table)
+    case_g(&mut table)?;
+    case_h()
 }
 
 fn cases_a_to_e() -> Result<(), Refusal> {
@@ -37,9 +38,8 @@ fn cases_a_to_e() -> Result<(), Refusal> {
 fn case_f() -> Result<Table, Refusal> {
     println!("in 8 slots:");
     let mut table = Table::new(8)?;
-    for (octets, length, hop) in SET {
-        let prefix = Prefix::new(Ipv4Addr::from(octets), length)?;
-        let writes = table.set(prefix, NextHop::new(hop).expect("the board's hops are not 0"))?;
+    for (prefix, hop) in routes()? {
+        let writes = table.set(prefix, hop)?;
         println!("set {prefix} {hop}, writes {writes}");
     }
     show_slots(&table);
@@ -62,6 +62,25 @@ fn case_g(table: &mut Table) -> Result<(), Refusal> {
     }
     show_slots(table);
     Ok(())
+}
+
+fn case_h() -> Result<(), Refusal> {
+    let table = RangeTable::of(routes()?)?;
+    println!("{} ranges:", table.iter().len());
+    for range in table.iter() {
+        println!("range {range}");
+    }
+    let q = Ipv4Addr::new(10, 20, 4, 10);
+    show(q, table.lookup(q));
+    Ok(())
+}
+
+fn routes() -> Result<Vec<(Prefix, NextHop)>, Refusal> {
+    let route = |(octets, length, hop)| {
+        let hop = NextHop::new(hop).expect("the board's hops are not 0");
+        Ok((Prefix::new(Ipv4Addr::from(octets), length)?, hop))
+    };
+    SET.into_iter().map(route).collect()
 }
 
 fn show(q: Ipv4Addr, hop: Option<NextHop>) {

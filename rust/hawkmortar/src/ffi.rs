@@ -93,4 +93,25 @@ extern "C" {
         plan_len: usize,
         k: usize,
     ) -> Outcome;
+
+    pub fn hawkmortar_ranges_build(
+        addresses: *const u32,
+        addresses_len: usize,
+        lengths: *const u32,
+        lengths_len: usize,
+        hops: *const u32,
+        hops_len: usize,
+        starts: *mut u32,
+        starts_len: usize,
+        range_hops: *mut u32,
+        range_hops_len: usize,
+    ) -> Outcome;
+
+    pub fn hawkmortar_range_lookup(
+        starts: *const u32,
+        starts_len: usize,
+        range_hops: *const u32,
+        range_hops_len: usize,
+        q: u32,
+    ) -> Outcome;
 }

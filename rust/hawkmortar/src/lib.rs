@@ -21,17 +21,20 @@
 //! ```
 //!
 //! A [`Table`] keeps routes in slots and plans each update as a row of single writes; [`slots`] has the same calls over lent
-//! rows.
+//! rows. A [`RangeTable`] has the routes of a list merged into ranges of addresses; [`ranges`] has its calls over lent rows.
 #![warn(missing_docs)]
 
 mod ffi;
 pub mod list;
 mod prefix;
+pub mod range_table;
+pub mod ranges;
 mod refusal;
 pub mod slots;
 pub mod table;
 
 pub use prefix::Prefix;
+pub use range_table::{Range, RangeTable};
 pub use refusal::Refusal;
 pub use table::{Entry, Plan, Table, Write};
 
@@ -43,6 +46,9 @@ pub const MAX_ROUTES: usize = 4096;
 
 /// The most slots of a table; the least is 1.
 pub const MAX_SLOTS: usize = 4096;
+
+/// The most ranges of a table; the least is 1.
+pub const MAX_RANGES: usize = 8193;
 
 /// The most writes of a plan that sets a prefix.
 pub const MAX_SET_WRITES: usize = 17;

@@ -29,6 +29,19 @@ const AFTER_REMOVAL: &str = "\
 7 00000000 00000007
 ";
 
+/// Each range's start and hop.
+const RANGES: &str = "\
+00000000 7
+0a000000 1
+0a140000 2
+0a140400 3
+0a140409 2
+0a14040a 3
+0a140500 2
+0a150000 1
+0b000000 7
+";
+
 #[test]
 fn a_c_program_over_the_header_answers_the_board() {
     let here = Path::new(env!("CARGO_MANIFEST_DIR"));
@@ -53,11 +66,13 @@ fn a_c_program_over_the_header_answers_the_board() {
     );
     let ran = Command::new(&program).output().expect("the program runs");
     assert!(ran.status.success());
-    let list = "0 2\n0 3\n0 2\n0 7\n4 1\n";
+    let answers = "0 2\n0 3\n0 2\n0 7\n";
+    let twice = "4 1\n";
     let sets = "0 1\n0 1\n0 2\n0 3\n0 2\n";
     let removal = "0 2\n0 3\n0 2\n0 2\n";
+    let builds = "9 0\n0 9\n";
     assert_eq!(
         String::from_utf8_lossy(&ran.stdout),
-        format!("{list}{sets}{AFTER_SETS}{removal}{AFTER_REMOVAL}")
+        format!("{answers}{twice}{sets}{AFTER_SETS}{removal}{AFTER_REMOVAL}{builds}{RANGES}{answers}")
     );
 }

@@ -5,6 +5,7 @@
 pub mod book;
 pub mod list;
 pub mod random;
+pub mod ranges;
 pub mod slots;
 
 /// A refusal's number and place.

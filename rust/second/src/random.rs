@@ -35,7 +35,7 @@ impl Random {
 }
 
 /// The three rows of a list.
-#[derive(Clone, Default, Debug)]
+#[derive(Clone, Default, PartialEq, Eq, Debug)]
 pub struct Rows {
     /// The prefixes' addresses.
     pub addresses: Vec<u32>,
@@ -56,19 +56,49 @@ impl Rows {
     /// A list of so many distinct valid prefixes, whose addresses have no bit outside `mask`: with a sparse mask many of them lie
     /// inside each other. The mask has to leave enough prefixes.
     pub fn valid(random: &mut Random, entries: usize, mask: u32) -> Self {
+        let prefix = |random: &mut Random| (random.below(33) as u32, random.number() as u32 & mask);
+        let hop = |random: &mut Random| {
+            if random.one_in(8) {
+                random.pick(&[1, 65_535])
+            } else {
+                1 + random.below(300) as u32
+            }
+        };
+        Rows::distinct(random, entries, prefix, hop)
+    }
+
+    /// A list of so many distinct valid prefixes near three addresses, one of them the first or the last of all, with next hops up
+    /// to `hops`: many prefixes lie inside each other or touch, and with few hops many neighbours have the same.
+    pub fn near(random: &mut Random, entries: usize, hops: u64) -> Self {
+        let near = [
+            random.number() as u32,
+            random.number() as u32,
+            random.pick(&[0, u32::MAX]),
+        ];
+        let prefix = |random: &mut Random| {
+            let length = random.below(33) as u32;
+            // the prefix's last bits turned
+            let turned = random.below(4 + entries as u64) << (32 - length);
+            (length, random.pick(&near) ^ turned as u32)
+        };
+        Rows::distinct(random, entries, prefix, |random| 1 + random.below(hops) as u32)
+    }
+
+    /// A list of so many distinct prefixes. A prefix is drawn as a length and an address, whose bits behind the length are put
+    /// to 0, and drawn again if it is there already.
+    pub fn distinct(
+        random: &mut Random,
+        entries: usize,
+        prefix: impl Fn(&mut Random) -> (u32, u32),
+        hop: impl Fn(&mut Random) -> u32,
+    ) -> Self {
         let mut rows = Rows::default();
         let mut seen = std::collections::HashSet::new();
         while rows.addresses.len() < entries {
-            let length = random.below(33) as u32;
-            let bits = random.number() as u32 & mask;
+            let (length, bits) = prefix(random);
             let address = (u64::from(bits) >> (32 - length) << (32 - length)) as u32;
             if seen.insert((address, length)) {
-                let hop = if random.one_in(8) {
-                    random.pick(&[1, 65_535])
-                } else {
-                    1 + random.below(300) as u32
-                };
-                rows.push(address, length, hop);
+                rows.push(address, length, hop(random));
             }
         }
         rows

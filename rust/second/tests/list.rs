@@ -1,37 +1,12 @@
 //! The list calls of the library and of the second program, compared.
 
-use hawkmortar::{list as proved, NextHop, Refusal};
-use second::list as plain;
+mod both;
+
+use both::list::{check, lookup, one, set_p, with_one_fault};
+use hawkmortar::{list as proved, NextHop};
+use second::ip;
+use second::list::bounds;
 use second::random::{Random, Rows};
-use second::{ip, Fault};
-
-fn fault(refusal: Refusal) -> Fault {
-    (refusal.number(), refusal.place())
-}
-
-/// What both programs answer to a test of the list.
-fn check(rows: &Rows) -> Result<usize, Fault> {
-    let found = proved::check(&rows.addresses, &rows.lengths, &rows.hops).map_err(fault);
-    assert_eq!(
-        found,
-        plain::check(&rows.addresses, &rows.lengths, &rows.hops),
-        "{rows:?}"
-    );
-    found
-}
-
-/// What both programs answer for the address `q`.
-fn lookup(rows: &Rows, q: u32) -> Result<u32, Fault> {
-    let found = proved::lookup(&rows.addresses, &rows.lengths, &rows.hops, q)
-        .map(|hop| hop.map_or(0, |hop| hop.get().into()))
-        .map_err(fault);
-    assert_eq!(
-        found,
-        plain::lookup(&rows.addresses, &rows.lengths, &rows.hops, q),
-        "{q} in {rows:?}"
-    );
-    found
-}
 
 /// Both programs test the list alike, and answer each key alike.
 fn same(rows: &Rows, keys: impl IntoIterator<Item = u32>) {
@@ -45,27 +20,10 @@ fn same(rows: &Rows, keys: impl IntoIterator<Item = u32>) {
 fn edges(rows: &Rows, first: usize, step: usize) -> Vec<u32> {
     let mut keys = vec![0, u32::MAX];
     for (&address, &length) in rows.addresses.iter().zip(&rows.lengths).skip(first).step_by(step) {
-        let (first, last) = plain::bounds(address, length.min(32));
+        let (first, last) = bounds(address, length.min(32));
         keys.extend([first, last, first.wrapping_sub(1), last.wrapping_add(1)]);
     }
     keys
-}
-
-/// The board's set P.
-fn set_p() -> Rows {
-    let mut rows = Rows::default();
-    rows.push(ip([10, 0, 0, 0]), 8, 1);
-    rows.push(ip([10, 20, 0, 0]), 16, 2);
-    rows.push(ip([10, 20, 4, 0]), 24, 3);
-    rows.push(ip([10, 20, 4, 9]), 32, 2);
-    rows.push(0, 0, 7);
-    rows
-}
-
-fn one(address: u32, length: u32, hop: u32) -> Rows {
-    let mut rows = Rows::default();
-    rows.push(address, length, hop);
-    rows
 }
 
 #[test]
@@ -127,32 +85,9 @@ fn limits_of_the_list() {
 
 #[test]
 fn each_refusal_at_each_place() {
-    let good = set_p();
-    for place in 0..5 {
-        for (change, number) in [(0, 1), (1, 2), (2, 3), (3, 3)] {
-            let mut rows = good.clone();
-            match change {
-                0 => rows.lengths[place] = 33,
-                1 => {
-                    rows.addresses[place] |= 1;
-                    rows.lengths[place] = 31;
-                }
-                2 => rows.hops[place] = 0,
-                _ => rows.hops[place] = 65_536,
-            }
-            assert_eq!(check(&rows), Err((number, place)));
-            assert_eq!(lookup(&rows, 7), Err((number, place)));
-        }
-        for earlier in 0..place {
-            for hop in [good.hops[earlier], 9] {
-                let mut rows = good.clone();
-                rows.addresses[place] = rows.addresses[earlier];
-                rows.lengths[place] = rows.lengths[earlier];
-                rows.hops[place] = hop;
-                assert_eq!(check(&rows), Err((4, place)));
-                assert_eq!(lookup(&rows, 7), Err((4, place)));
-            }
-        }
+    for (rows, fault) in with_one_fault(&set_p()) {
+        assert_eq!(check(&rows), Err(fault));
+        assert_eq!(lookup(&rows, 7), Err(fault));
     }
 }
 

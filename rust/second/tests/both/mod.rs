@@ -1,7 +1,14 @@
-//! The slot calls, each asked of both programs: the answers are compared, and so is every cell that was lent. A refused call
-//! has left all of them as they were, an accepted one has changed exactly what the second program says.
+//! The calls, each asked of both programs: the answers are compared, and so is every cell that was lent. A refused call has left
+//! all of them as they were, an accepted one has changed exactly what the second program says. The slot calls are here, those of
+//! lists and ranges in their own modules.
 
-use hawkmortar::{slots as proved, Refusal};
+// a test file needs only a part
+#![allow(dead_code)]
+
+pub mod list;
+pub mod ranges;
+
+use hawkmortar::{slots as proved, NextHop, Refusal};
 use second::list::bounds;
 use second::random::Random;
 use second::slots::{self as plain, Image};
@@ -9,6 +16,11 @@ use second::Fault;
 
 pub fn fault(refusal: Refusal) -> Fault {
     (refusal.number(), refusal.place())
+}
+
+/// The answer of a lookup in the library, in numbers.
+pub fn numbers(found: Result<Option<NextHop>, Refusal>) -> Result<u32, Fault> {
+    found.map(|hop| hop.map_or(0, |hop| hop.get().into())).map_err(fault)
 }
 
 /// A set of a prefix, or its removal where there is no hop.
@@ -46,9 +58,7 @@ pub fn check(image: &Image) -> Result<usize, Fault> {
 
 /// What the library answers for the address `q`.
 pub fn library_lookup(image: &Image, q: u32) -> Result<u32, Fault> {
-    proved::lookup(&image.addresses, &image.tags, q)
-        .map(|hop| hop.map_or(0, |hop| hop.get().into()))
-        .map_err(fault)
+    numbers(proved::lookup(&image.addresses, &image.tags, q))
 }
 
 /// What both programs answer for each of some addresses.

@@ -1,0 +1,78 @@
+//! The list calls, asked of both programs, and lists to ask for.
+
+use super::{fault, numbers};
+use hawkmortar::list as proved;
+use second::list as plain;
+use second::random::Rows;
+use second::{ip, Fault};
+
+/// What both programs answer to a test of the list.
+pub fn check(rows: &Rows) -> Result<usize, Fault> {
+    let found = proved::check(&rows.addresses, &rows.lengths, &rows.hops).map_err(fault);
+    assert_eq!(
+        found,
+        plain::check(&rows.addresses, &rows.lengths, &rows.hops),
+        "{rows:?}"
+    );
+    found
+}
+
+/// What both programs answer for the address `q`.
+pub fn lookup(rows: &Rows, q: u32) -> Result<u32, Fault> {
+    let found = numbers(proved::lookup(&rows.addresses, &rows.lengths, &rows.hops, q));
+    assert_eq!(
+        found,
+        plain::lookup(&rows.addresses, &rows.lengths, &rows.hops, q),
+        "{q} in {rows:?}"
+    );
+    found
+}
+
+/// A list of entries given as address, length and hop.
+pub fn list_of(entries: &[(u32, u32, u32)]) -> Rows {
+    let mut rows = Rows::default();
+    entries
+        .iter()
+        .for_each(|&(address, length, hop)| rows.push(address, length, hop));
+    rows
+}
+
+/// A list of one entry.
+pub fn one(address: u32, length: u32, hop: u32) -> Rows {
+    list_of(&[(address, length, hop)])
+}
+
+/// The board's set P.
+pub fn set_p() -> Rows {
+    list_of(&[
+        (ip([10, 0, 0, 0]), 8, 1),
+        (ip([10, 20, 0, 0]), 16, 2),
+        (ip([10, 20, 4, 0]), 24, 3),
+        (ip([10, 20, 4, 9]), 32, 2),
+        (0, 0, 7),
+    ])
+}
+
+/// Copies of a good list with one fault each, and the refusal it is to get: each of 1, 2 and 3 at each place, and 4 at each place
+/// for each earlier entry.
+pub fn with_one_fault(good: &Rows) -> Vec<(Rows, Fault)> {
+    let mut faulty = Vec::new();
+    let mut change = |number, place: usize, entry: (u32, u32, u32)| {
+        let mut rows = good.clone();
+        (rows.addresses[place], rows.lengths[place], rows.hops[place]) = entry;
+        faulty.push((rows, (number, place)));
+    };
+    let entry = |i: usize| (good.addresses[i], good.lengths[i], good.hops[i]);
+    for place in 0..good.addresses.len() {
+        let (address, length, hop) = entry(place);
+        change(1, place, (address, 33, hop));
+        change(2, place, (address | 1, 31, hop));
+        change(3, place, (address, length, 0));
+        change(3, place, (address, length, 65_536));
+        for (address, length, hop) in (0..place).map(entry) {
+            change(4, place, (address, length, hop));
+            change(4, place, (address, length, 9));
+        }
+    }
+    faulty
+}
