@@ -1,7 +1,8 @@
 -- Demand 2 holds of the list, of the slots and of the merged ranges: the routes are a set, whose longest match is right, and is what all
 -- of them answer.
 use Prim.Native.Nat.{ℕ, _^_, _≤_, _<_}
-use mathlib.Core.Path.{refl, subst⁻¹}
+use mathlib.Core.Path.{_≡_, refl, subst⁻¹}
+use mathlib.Core.Logic.{_↔_}
 use mathlib.Core.List.{List}
 use lib.ListN.{length}
 use Rattle.route.specs.Limits.{maxRoutes}
@@ -13,9 +14,10 @@ use Rattle.route.proofs.Accepted.{rowsOfSet}
 use Rattle.route.proofs.Entries.{routes-length, routes-addresses}
 use Rattle.route.proofs.LongestMatch.{right, only}
 use Rattle.tcam.proofs.SlotsAgree.{slotsAgree}
+use Rattle.ranges.specs.Ranges.{Range, rangesOf}
 use Rattle.ranges.proofs.Boundaries.{Placed}
-use Rattle.ranges.proofs.RangesAgree.{rangesAgree, rangesBelow, rangesSmall, rangesFew, rangesFewer}
-use Rattle.claims.specs.Agreement.{Addresses, Agree, Fits, Demand2}
+use Rattle.ranges.proofs.RangesAgree.{rangesAgree, rangesFine, rangesOnly, rangesHop, rangesBelow, rangesSmall, rangesFew, rangesFewer}
+use Rattle.claims.specs.Agreement.{Addresses, Agree, Fits, RangesFor, Demand2}
 
 module _ (W : ℕ) (ad ns hs : List ℕ) (s : RowsOfSet W ad ns hs) where
   set : RouteSet W (routes ad ns hs)
@@ -35,6 +37,16 @@ module _ (W : ℕ) (ad ns hs : List ℕ) (s : RowsOfSet W ad ns hs) where
     ranges = λ small below. rangesAgree W (routes ad ns hs) (s .valid) (placed small) q below few;
   }
 
+  table : Addresses W ad → (t : List Range) → RangesFor W (routes ad ns hs) t ↔ (t ≡ rangesOf W (routes ad ns hs))
+  table small t = (
+    (λ f. rangesOnly W (routes ad ns hs) (s .valid) (placed small) t (f .rules) (f .below) (f .answers)),
+    (λ e. subst⁻¹ (RangesFor W (routes ad ns hs)) e (record {
+      rules = rangesFine W (routes ad ns hs) (s .valid) (placed small);
+      below = rangesBelow W (routes ad ns hs) (s .valid) (placed small);
+      answers = rangesHop W (routes ad ns hs) (s .valid) (placed small);
+    })),
+  )
+
   fits : Addresses W ad → Fits W (routes ad ns hs)
   fits small = record {
     starts = rangesBelow W (routes ad ns hs) (s .valid) (placed small);
@@ -48,6 +60,7 @@ demand2 = record {
   premise = rowsOfSet;
   agree = agree;
   only = λ W ad ns hs s q. only W (routes ad ns hs) q (set W ad ns hs s);
+  table = table;
   fits = fits;
   empty = λ W. refl;
 }

@@ -13,7 +13,7 @@ use Rattle.route.specs.Limits.{maxHop}
 use Rattle.route.specs.RowsOfSet.{Valid, Distinct, RowsOfSet}
 use Rattle.tcam.specs.Slots.{maxSlots, Cell, slotLookup}
 use Rattle.tcam.specs.Tables.{addresses, tags, TableOf}
-use Rattle.ranges.specs.Ranges.{range, rangesOf, startsOf, hopsOf, rangeLookup}
+use Rattle.ranges.specs.Ranges.{Range, range, rangesOf, startsOf, hopsOf, tableFault, hopAt, rangeLookup}
 
 -- every address of a row is one of W bits
 abbrev pub Addresses : ℕ → List ℕ → Type 0
@@ -35,12 +35,20 @@ pub record Fits (W : ℕ) (rs : List Route) : Type 0 where
   pub few : length (rangesOf W rs) ≤ 2 * length rs + 1
   pub fewer : (r : Route) → r ∈ rs → r .length ≡ 0 → length (rangesOf W rs) ≤ 2 * length rs - 1
 
--- the lists that are accepted are those of a set; such a list answers every address, right; no other answer is right; what is built from
--- it fits; and of no routes at all it is one range without a hop
+-- a table that keeps the range rules and gives every address the answer of the set
+pub record RangesFor (W : ℕ) (rs : List Route) (t : List Range) : Type 0 where
+  pub rules : tableFault t ≡ fine
+  pub below : (x : ℕ) → x ∈ startsOf t → x < 2 ^ W
+  pub answers : (q : ℕ) → q < 2 ^ W → hopAt 0 t q ≡ answer W rs q
+
+-- the lists that are accepted are those of a set; such a list answers every address, right; no other answer is right; its merged ranges
+-- are the one table for it, and fit; and those of no routes are one range without a hop
 pub record Demand2 : Type 0 where
   pub premise : (W : ℕ) (ad ns hs : List ℕ) → (rowsFault W ad ns hs ≡ fine) ↔ RowsOfSet W ad ns hs
   pub agree : (W : ℕ) (ad ns hs : List ℕ) → RowsOfSet W ad ns hs → (q : ℕ) → Agree W ad ns hs q (answer W (routes ad ns hs) q)
   pub only : (W : ℕ) (ad ns hs : List ℕ) → RowsOfSet W ad ns hs → (q h : ℕ) → Right W (routes ad ns hs) q h → h ≡ answer W (routes ad ns hs) q
+  pub table : (W : ℕ) (ad ns hs : List ℕ) → RowsOfSet W ad ns hs → Addresses W ad → (t : List Range) →
+      RangesFor W (routes ad ns hs) t ↔ (t ≡ rangesOf W (routes ad ns hs))
   pub fits : (W : ℕ) (ad ns hs : List ℕ) → RowsOfSet W ad ns hs → Addresses W ad → Fits W (routes ad ns hs)
   pub empty : (W : ℕ) → rangesOf W [] ≡ range 0 0 ∷ []
 

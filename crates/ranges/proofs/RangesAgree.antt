@@ -1,7 +1,7 @@
 -- The merged ranges of a set say its answer: they keep the rules, are few, are found by a lookup, and go by the set alone.
 use Prim.Native.Nat.{ℕ, _+_, _*_, _-_, _^_, _≤_, _<_}
 use mathlib.Core.Path.{_≡_, refl, sym, _∙_, ap, subst}
-use mathlib.Core.List.{List, [], _∷_, Memᴰ·of-map}
+use mathlib.Core.List.{List, [], _∷_, Memᴰ·map, Memᴰ·of-map}
 use lib.ListN.{length, length-map}
 use lib.Pow.{pow-pos}
 use native.Mathlib.Omega.{arith}
@@ -16,7 +16,7 @@ use Rattle.route.proofs.RouteSet.{RouteSet}
 use Rattle.ranges.specs.Ranges.{maxRanges, Range, boundaries, rangesOf, ranges, tableFault, hopAt, rangeLookup, startsOf, hopsOf}
 use Rattle.ranges.proofs.Boundaries.{Placed, boundariesRise, boundariesFew, boundariesFewer, steady}
 use Rattle.ranges.proofs.MergedRanges.{mergedFew, mergedSay}
-use Rattle.ranges.proofs.Says.{Table, table-hop, table-fine, table-once, table-same, table-each}
+use Rattle.ranges.proofs.Says.{Table, table-hop, table-fine, table-once, table-same, table-each, table-looked-up}
 
 -- the rows of starts and hops say the ranges
 rowsSay : (t : List Range) → ranges (startsOf t) (hopsOf t) ≡ t
@@ -81,11 +81,20 @@ module _ (W : ℕ) (rs : List Route) (valid : (r : Route) → r ∈ rs → Valid
   pub rangesOnce : (t : List Range) → Table (answer W rs) (2 ^ W) t → t ≡ rangesOf W rs
   rangesOnce t s = table-once (answer W rs) (2 ^ W) (pow-pos W) t (rangesOf W rs) s rangesSay
 
+  -- so a table that keeps the rules and answers as the set does is the set's
+  pub rangesOnly : (t : List Range) → tableFault t ≡ fine → ((x : ℕ) → x ∈ startsOf t → x < 2 ^ W) →
+      ((q : ℕ) → q < 2 ^ W → hopAt 0 t q ≡ answer W rs q) → t ≡ rangesOf W rs
+  rangesOnly t ok below finds =
+      rangesOnce t (table-looked-up (answer W rs) (2 ^ W) (pow-pos W) t ok (λ r m. below (r .start) (Memᴰ·map (λ r. r .start) m)) finds)
+
+  pub rangesHop : (q : ℕ) → q < 2 ^ W → hopAt 0 (rangesOf W rs) q ≡ answer W rs q
+  rangesHop q lt = table-hop (answer W rs) (2 ^ W) (rangesOf W rs) rangesSay q lt
+
   pub rangesAgree : (q : ℕ) → q < 2 ^ W → length rs ≤ maxRoutes →
       rangeLookup (startsOf (rangesOf W rs)) (hopsOf (rangesOf W rs)) q ≡ value (answer W rs q)
   rangesAgree q lt few =
       lookedUp (rangesOf W rs) q (omega (arith, rangesFew W rs)) rangesFine
-      ∙ ap value (table-hop (answer W rs) (2 ^ W) (rangesOf W rs) rangesSay q lt)
+      ∙ ap value (rangesHop q lt)
 
 -- the merged ranges go by the set, whatever its order
 pub rangesSame : (W : ℕ) (rs ss : List Route) → RouteSet W rs → Placed W rs → SameSet rs ss → rangesOf W ss ≡ rangesOf W rs

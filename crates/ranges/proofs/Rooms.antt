@@ -1,6 +1,6 @@
 -- A build's refusals and what it leaves: the list's fault, no room, or the ranges in both rows.
-use Prim.Native.Nat.{ℕ, _≤_, _<_}
-use mathlib.Core.Path.{_≡_, refl, sym, _∙_, ap}
+use Prim.Native.Nat.{ℕ, _≤_}
+use mathlib.Core.Path.{_≡_, sym, _∙_, ap}
 use mathlib.Core.Bool.{true, _||_}
 use mathlib.Core.List.{List}
 use borrow.Author.Tests.{le-ltb}

@@ -3,17 +3,18 @@
 -- There is one such row of ranges for a function. So a table built in any way is the merged ranges of a set as soon as it says their answer.
 use Prim.Native.Nat.{ℕ, _+_, _≤_, _<_}
 use mathlib.Core.Path.{_≡_, refl, sym, _∙_, ap₂}
-use mathlib.Core.List.{List, [], _∷_, List·Memᴰ·not-nil}
-use lib.Dec.{leb}
+use mathlib.Core.Bool.{not}
+use mathlib.Core.List.{List, [], _∷_, List·Memᴰ·head, List·Memᴰ·tail, List·Memᴰ·not-nil}
+use lib.Dec.{eqb, leb}
 use native.Mathlib.Omega.{arith}
 use native.Mathlib.Nat.{le-antisymm}
-use borrow.Author.Tests.{eq-eqb, ne-eqb, le-ltb, le-leb, lt-leb}
+use borrow.Author.Tests.{eqb-true, eqb-false, eq-eqb, ne-eqb, leb-false, le-ltb, le-leb, lt-leb, not-false}
 use Rattle.route.specs.Limits.{maxHop}
-use Rattle.route.specs.Refusals.{fine}
+use Rattle.route.specs.Refusals.{fine, faultIf, imageRefusal}
 use Rattle.route.specs.RightHop.{_∈_}
 use Rattle.route.proofs.Members.{eachOf}
-use Rattle.route.proofs.Tests.{orders, byTest}
-use Rattle.ranges.specs.Ranges.{Range, range, rangesFault, tableFault, hopAt}
+use Rattle.route.proofs.Tests.{orders, byTest, or-parts, inTurn, passed}
+use Rattle.ranges.specs.Ranges.{Range, range, breaks, firstBreaks, rangesFault, tableFault, hopAt}
 
 abbrev pub Says : (ℕ → ℕ) → ℕ → ℕ → ℕ → List Range → Type 0
 Says f top lo h [] = (lo < top) × ((q : ℕ) → lo ≤ q → q < top → f q ≡ h)
@@ -87,6 +88,25 @@ module _ (f : ℕ → ℕ) (top : ℕ) where
       ofRow [] s = (omega (arith, s .0), both top (s .1))
       ofRow (r ∷ rs) s = (omega (arith, s .0), both (r .start) (s .1), s .2, s .3)
 
+-- ranges that keep the rules and in which a lookup finds the function's value say it
+module _ (f : ℕ → ℕ) (top : ℕ) where
+  says-looked-up : (i : ℕ) (p : Range) (rs : List Range) → rangesFault i p rs ≡ fine → p .start < top →
+      ((r : Range) → r ∈ rs → r .start < top) → ((q : ℕ) → p .start ≤ q → q < top → hopAt (p .hop) rs q ≡ f q) →
+      Says f top (p .start) (p .hop) rs
+  says-looked-up i p [] ok l below finds = (l, λ q a b. sym (finds q a b))
+  says-looked-up i p (r ∷ rs) ok l below finds =
+      let t = inTurn (faultIf (breaks p r) imageRefusal i) _ ok in
+      let b = or-parts _ _ (passed (breaks p r) _ _ (t .0)) in
+      let c = or-parts (leb (r .start) (p .start)) _ (b .0) in
+      let up = leb-false (r .start) (p .start) (c .0) in
+      let high = below r (List·Memᴰ·head refl) in (
+        up,
+        (λ q a u. sym (rw (lt-leb (r .start) q u) at (finds q a (omega arith)))),
+        eqb-false (r .hop) (p .hop) (c .1),
+        says-looked-up (i + 1) r rs (t .1) high (λ s m. below s (List·Memᴰ·tail m))
+            (λ q a u. rw (le-leb (r .start) q a) at (finds q (omega arith) u)),
+      )
+
 -- two functions with the same values
 module _ (f g : ℕ → ℕ) (top : ℕ) (same : (q : ℕ) → f q ≡ g q) where
   says-same : (lo h : ℕ) (rs : List Range) → Says f top lo h rs → Says g top lo h rs
@@ -112,6 +132,16 @@ module _ (f : ℕ → ℕ) (top : ℕ) where
   table-each pos (r ∷ rs) s =
       eachOf {P = λ (r : Range). (r .start < top) × (f (r .start) ≡ r .hop)} r rs
       (rw (s .0) (pos, says-first f top 0 (r .hop) rs (s .1))) (says-each f top 0 (r .hop) rs (s .1))
+
+  pub table-looked-up : 0 < top → (t : List Range) → tableFault t ≡ fine → ((r : Range) → r ∈ t → r .start < top) →
+      ((q : ℕ) → q < top → hopAt 0 t q ≡ f q) → Table f top t
+  table-looked-up pos [] ok below finds = cc
+  table-looked-up pos (r ∷ rs) ok below finds =
+      let t = inTurn (faultIf (firstBreaks r) imageRefusal 0) _ ok in
+      let z = eqb-true (r .start) 0 (not-false _ (or-parts (not (eqb (r .start) 0)) _ (passed (firstBreaks r) _ _ (t .0)) .0)) in
+      let says = says-looked-up f top 1 r rs (t .1) (omega arith) (λ s m. below s (List·Memᴰ·tail m))
+      (λ q a u. rw (le-leb (r .start) q a) at (finds q u)) in
+      (z, rw z at says)
 
   pub table-fine : 0 < top → ((x : ℕ) → f x ≤ maxHop) → (t : List Range) → Table f top t → tableFault t ≡ fine
   table-fine pos small [] s = absurd (omega arith)

@@ -10,7 +10,7 @@ use lib.Dec.{leb, eqb}
 use lib.ListN.{length, drop, drop-of-length-le}
 use lib.Seq.{drop-cons}
 use Rattle.route.specs.Refusals.{fine, Answer, value, refused, unlessFault, imageRefusal}
-use Rattle.route.proofs.Tests.{orders, byTest, or-parts}
+use Rattle.route.proofs.Tests.{byTest, or-parts}
 use Rattle.ranges.specs.Ranges.{maxRanges, Range, ranges, breaks, firstBreaks, rangesFault, sizeFault, hopAt, rangeLookup}
 use Rattle.ranges.specs.Loops.{rangeAt}
 

@@ -1,8 +1,8 @@
 -- The sweep makes the merged ranges: what it has made says the answer up to where it is, and what is open or still to come gives the
 -- answer from there on.
 use Prim.Native.Nat.{ℕ, _+_, _-_, _^_, _≤_, _<_}
-use mathlib.Core.Path.{_≡_, refl, sym, _∙_, ap}
-use mathlib.Core.Bool.{true, false, cond, not, _&&_}
+use mathlib.Core.Path.{_≡_, refl, sym, _∙_}
+use mathlib.Core.Bool.{true, false, cond, not}
 use mathlib.Core.List.{List, [], _∷_, _++_, List·Memᴰ·head, List·Memᴰ·tail, List·Memᴰ·not-nil}
 use lib.Dec.{leb, ltb, eqb}
 use lib.Pow.{pow-pos}
@@ -19,7 +19,7 @@ use Rattle.ranges.specs.Ranges.{Range, range, pastEnd, rangesOf}
 use Rattle.ranges.specs.Sweeps.{Sweep, sweep, lastOf, joined, openHop, extended, advanced, endsBy, closed, closedBy, opening, swept, sweptRanges}
 use Rattle.ranges.proofs.Boundaries.{Placed}
 use Rattle.ranges.proofs.Says.{Says, Table}
-use Rattle.ranges.proofs.LastMatch.{InOrder, AllInOrder, lastHop, lastLongest}
+use Rattle.ranges.proofs.LastMatch.{AllInOrder, lastHop, lastLongest}
 use Rattle.ranges.proofs.RangesAgree.{rangesOnce}
 
 -- ranges that say f up to x, and one more from x on, say f up to y

@@ -7,7 +7,6 @@ ghost use mathlib.Core.Path.{_≡_};
 ghost use Prim.Native.Nat.{_+_, _*_, _≤_, _<_};
 ghost use lib.ListN.{length, drop};
 ghost use Rattle.route.specs.Shown.{routeOf};
-ghost use Rattle.route.specs.RowsOfSet.{Valid};
 ghost use Rattle.route.specs.Loops.{before};
 ghost use Rattle.ranges.specs.Ranges.{range, pastEnd};
 ghost use Rattle.ranges.specs.Words.{keyAt, routesIn, rangesIn};

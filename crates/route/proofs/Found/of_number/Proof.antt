@@ -1,6 +1,5 @@
 -- A hop that is not 0 is shown as it is.
 use borrow.Author.Needs.{needs}
-use native.Mathlib.Omega.{arith}
 use mathlib.Core.Path.{ap}
 use Rattle.route.specs.Refusals.{value}
 use Rattle.route.proofs.Lookups.{via-shown}
