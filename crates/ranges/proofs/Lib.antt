@@ -15,4 +15,5 @@ pub mod Scans
 pub mod Fills
 pub mod Sorts
 pub mod Merges
-pub mod Closings
+pub mod Steps
+pub mod SweepLoops

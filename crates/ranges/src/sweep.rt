@@ -29,7 +29,7 @@ pub struct Progress {
 }
 
 // One past the last address of a prefix; past the last address of all it is 0.
-pub fn past_end(p: Prefix) -> u32
+fn past_end(p: Prefix) -> u32
     ensures { λ r. ⌜ r ≡ pastEnd 32 (routeOf p) ⌝ }
 {
     let span = span_of(p.length);
@@ -74,6 +74,20 @@ fn join(words: &mut [u64], made: usize, r: Range) -> usize
     made + 1
 }
 
+// Makes a range that starts where the sweep is, with the hop of the prefix opened last: how many
+// ranges there are then.
+fn extend(keys: &[u64], words: &mut [u64], p: Progress) -> usize
+    requires { ⌜ (p .opened ≤ length (now keys)) × (p .made < length (now words)) ⌝ }
+    ensures { λ n. ⌜ (n ≤ p .made + 1) × (rangesIn n (now (words .exit)) ≡ extended (sweepOf p (now (keys .entry)) (now (words .entry)))) ⌝ }
+    ensures { λ n. ⌜ length (now (words .exit)) ≡ length (now (words .entry)) ⌝ }
+{
+    let range = Range {
+        start: p.reached,
+        hop: open_hop(keys, p.opened),
+    };
+    join(words, p.made, range)
+}
+
 // On to address x: the addresses passed over are a range.
 fn advance(keys: &[u64], words: &mut [u64], p: Progress, x: u32) -> Progress
     requires { ⌜ (p .opened ≤ length (now keys)) × (p .made < length (now words)) ⌝ }
@@ -83,15 +97,10 @@ fn advance(keys: &[u64], words: &mut [u64], p: Progress, x: u32) -> Progress
     if x <= p.reached {
         return p;
     }
-    let range = Range {
-        start: p.reached,
-        hop: open_hop(keys, p.opened),
-    };
-    let made = join(words, p.made, range);
     Progress {
         opened: p.opened,
         reached: x,
-        made: made,
+        made: extend(keys, words, p),
     }
 }
 
@@ -152,11 +161,7 @@ fn finish(keys: &[u64], words: &mut [u64], p: Progress) -> usize
     ensures { λ r. ⌜ (r ≤ length (now (words .exit))) × (length (now (words .exit)) ≡ length (now (words .entry))) ⌝ }
 {
     let last = close_by(keys, words, p, 4294967295);
-    let range = Range {
-        start: last.reached,
-        hop: open_hop(keys, last.opened),
-    };
-    join(words, last.made, range)
+    extend(keys, words, last)
 }
 
 // The merged ranges of the keys' prefixes, as words: how many there are. The keys are sorted.

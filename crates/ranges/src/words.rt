@@ -14,14 +14,14 @@ pub struct Range {
 }
 
 // The key of a prefix: its address, then its length, then its hop.
-pub fn key_of(p: Prefix) -> u64
+pub(crate) fn key_of(p: Prefix) -> u64
     ensures { λ r. ⌜ r ≡ keyOf (routeOf p) ⌝ }
 {
     (p.address as u64) * 4194304 + (p.length.0 as u64) * 65536 + (p.hop.0 as u64)
 }
 
 // The prefix that a key says.
-pub fn prefix_of(key: u64) -> Prefix
+pub(crate) fn prefix_of(key: u64) -> Prefix
     ensures { λ r. ⌜ routeOf r ≡ routeIn key ⌝ }
 {
     Prefix {
@@ -32,14 +32,14 @@ pub fn prefix_of(key: u64) -> Prefix
 }
 
 // The word of a range: its start, then its hop.
-pub fn word_of(r: Range) -> u64
+pub(crate) fn word_of(r: Range) -> u64
     ensures { λ w. ⌜ w ≡ wordOf (rangeOf r) ⌝ }
 {
     (r.start as u64) * 65536 + (r.hop as u64)
 }
 
 // The range that a word says.
-pub fn range_of(word: u64) -> Range
+pub(crate) fn range_of(word: u64) -> Range
     ensures { λ r. ⌜ rangeOf r ≡ rangeIn word ⌝ }
 {
     Range {

@@ -3,7 +3,7 @@ use borrow.Author.Needs.{needs}
 use mathlib.Core.Path.{refl, sym, _∙_}
 use native.Mathlib.Omega.{arith}
 use borrow.Author.Tests.{not-true, not-false}
-use Rattle.ranges.proofs.Closings.{ClosingAt, closing-stop, closing-turn, closing-end}
+use Rattle.ranges.proofs.SweepLoops.{ClosingAt, closing-stop, closing-turn, closing-end}
 use Rattle.ranges.proofs.sweep.close_by.Statement.{statement}
 use Rattle.ranges.proofs.sweep.close_by.Tie as tie
 

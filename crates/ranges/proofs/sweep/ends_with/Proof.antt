@@ -2,7 +2,7 @@
 use borrow.Author.Needs.{needs}
 use mathlib.Core.Path.{ap, sym, _∙_}
 use lib.Dec.{eqb}
-use Rattle.ranges.proofs.Packing.{endsWith-word}
+use Rattle.ranges.proofs.Steps.{endsWith-word}
 use Rattle.ranges.proofs.sweep.ends_with.Statement.{statement}
 use Rattle.ranges.proofs.sweep.ends_with.Tie as tie
 

@@ -4,7 +4,7 @@ use native.Mathlib.Omega.{arith}
 use mathlib.Core.Path.{refl, sym, _∙_}
 use lib.ListN.{length-set}
 use Rattle.ranges.specs.Shown.{rangeOf}
-use Rattle.ranges.proofs.Packing.{join-same, join-new}
+use Rattle.ranges.proofs.Steps.{join-same, join-new}
 use Rattle.ranges.proofs.sweep.join.Statement.{statement}
 use Rattle.ranges.proofs.sweep.join.Tie as tie
 

@@ -3,7 +3,7 @@ use borrow.Author.Needs.{needs}
 use mathlib.Core.Path.{ap, sym, _∙_}
 use Rattle.ranges.specs.Words.{keyAt}
 use Rattle.ranges.specs.Sweeps.{openHop}
-use Rattle.ranges.proofs.Packing.{before-last}
+use Rattle.ranges.proofs.Steps.{before-last}
 use Rattle.ranges.proofs.sweep.open_hop.Statement.{statement}
 use Rattle.ranges.proofs.sweep.open_hop.Tie as tie
 

@@ -7,7 +7,7 @@ use lib.ListN.{length-set}
 use lib.Seq.{drop-set-lt}
 use Rattle.ranges.specs.Shown.{sweepOf}
 use Rattle.ranges.specs.Sweeps.{advanced}
-use Rattle.ranges.proofs.Closings.{opening-key}
+use Rattle.ranges.proofs.SweepLoops.{opening-key}
 use Rattle.ranges.proofs.sweep.open_next.Statement.{statement}
 use Rattle.ranges.proofs.sweep.open_next.Tie as tie
 

@@ -5,7 +5,7 @@ use Prim.Native.Nat.{_-_}
 use mathlib.Core.Path.{refl, _∙_, ap}
 use lib.ListN.{length}
 use Rattle.ranges.specs.Sweeps.{extended, closedBy}
-use Rattle.ranges.proofs.Closings.{SweptTo, swept-turn, swept-end}
+use Rattle.ranges.proofs.SweepLoops.{SweptTo, swept-turn, swept-end}
 use Rattle.ranges.proofs.sweep.sweep_keys.Statement.{statement}
 use Rattle.ranges.proofs.sweep.sweep_keys.Tie as tie
 

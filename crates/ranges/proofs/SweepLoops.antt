@@ -14,7 +14,7 @@ use Rattle.ranges.specs.Words.{routeIn, routesIn, keyAt, rangesIn}
 use Rattle.ranges.specs.Sweeps.{Sweep, sweep, advanced, endsBy, closed, closedBy, opening, swept}
 use Rattle.ranges.specs.Shown.{sweepOf}
 use Rattle.ranges.specs.declared.sweep.Progress.{Progress}
-use Rattle.ranges.proofs.Packing.{before-last, before-set}
+use Rattle.ranges.proofs.Steps.{before-last, before-set}
 
 module _ (W x : ℕ) (at : ℕ → Route) (n a : ℕ) (t : List Range) (pos : 0 < n) where
   stop : endsBy W x (at (n - 1)) ≡ false → sweep (before at n) a t ≡ closed W x (before at n) a t
