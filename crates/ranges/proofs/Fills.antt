@@ -45,7 +45,8 @@ module _ {values row₀ row : List ℕ} {i : ℕ} (h : FilledTo values row₀ ro
 pub key-at : (ad ns hs : List ℕ) (i : ℕ) → EqualRows ad ns hs → getD (keysOf (routes ad ns hs)) i 0 ≡ keyOf (routeAt ad ns hs i)
 key-at ad ns hs i e = List·getD-map keyOf (routes ad ns hs) i (route 0 0 0) ∙ ap keyOf (routes-get ad ns hs i e)
 
-pub part-at : (part : Range → ℕ) → part (rangeIn 0) ≡ 0 → (n : ℕ) (ws : List ℕ) (i : ℕ) → i < n → getD (map part (rangesIn n ws)) i 0 ≡ part (rangeIn (getD ws i 0))
+pub part-at : (part : Range → ℕ) → part (rangeIn 0) ≡ 0 → (n : ℕ) (ws : List ℕ) (i : ℕ) → i < n →
+    getD (map part (rangesIn n ws)) i 0 ≡ part (rangeIn (getD ws i 0))
 part-at part z n ws i l =
     (rw z at (List·getD-map part (rangesIn n ws) i (rangeIn 0))) ∙ ap part (List·getD-map rangeIn (take n ws) i 0 ∙ ap rangeIn (getD-take n ws i 0 l))
 

@@ -76,7 +76,8 @@ keysOrder (k ∷ ks) b o = (
 module _ (rs : List Route) (fits : (r : Route) → r ∈ rs → Fits r) where
   keysSay : SameSet rs (routesIn (sorted (keysOf rs)))
   keysSay r = (
-    (λ m. subst (λ s. s ∈ routesIn (sorted (keysOf rs))) (keySays r (fits r m)) (Memᴰ·map routeIn (sorted-members (keyOf r) (keysOf rs) .1 (Memᴰ·map keyOf m)))),
+    (λ m. subst (λ s. s ∈ routesIn (sorted (keysOf rs))) (keySays r (fits r m))
+        (Memᴰ·map routeIn (sorted-members (keyOf r) (keysOf rs) .1 (Memᴰ·map keyOf m)))),
     (λ m. let n = Memᴰ·of-map routeIn (sorted (keysOf rs)) m in
         let o = Memᴰ·of-map keyOf rs (sorted-members (n .0) (keysOf rs) .0 (n .1)) in
         let e : o .0 ≡ r = sym (keySays (o .0) (fits (o .0) (o .1))) ∙ ap routeIn (o .2) ∙ n .2 in
@@ -115,4 +116,5 @@ module _ (ad ns hs : List ℕ) (ok : rowsFault 32 ad ns hs ≡ fine) {packed : L
 
     pub list-made : ((i : ℕ) → getD ad i 0 < 4294967296) → {t : List Range} → t ≡ sweptRanges 32 (routesIn keys) → t ≡ tableOf 32 ad ns hs
     list-made small e =
-        (rw (rises, is) at e) ∙ keysMake (routes ad ns hs) (acceptedSet 32 ad ns hs ok) (routes-addresses (λ a. a < 4294967296) ad ns hs (eachAt (λ a. a < 4294967296) ad small))
+        let placed = routes-addresses (λ a. a < 4294967296) ad ns hs (eachAt (λ a. a < 4294967296) ad small) in
+        (rw (rises, is) at e) ∙ keysMake (routes ad ns hs) (acceptedSet 32 ad ns hs ok) placed

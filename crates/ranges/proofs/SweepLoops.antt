@@ -48,7 +48,9 @@ module _ {x : ℕ} {keys words₀ words : List ℕ} {p s : Progress} (h : Closin
       room = omega (arith, h .room, bounds .0, bounds .1);
       fits = h .fits;
       size = bounds .2 ∙ h .size;
-      left = (rw (bounds .0) (turn 32 x (keyAt keys) (s .opened) (s .reached) (rangesIn (s .made) words) pos (sweepOf u keys words′) (rw is at e) (rw (past, is) at on))) ∙ h .left;
+      left = (rw (bounds .0)
+          (turn 32 x (keyAt keys) (s .opened) (s .reached) (rangesIn (s .made) words) pos (sweepOf u keys words′) (rw is at e) (rw (past, is) at on)))
+          ∙ h .left;
     }
 
   pub closing-end : s .opened ≤ 0 → sweepOf s keys words ≡ closedBy 32 x (sweepOf p keys words₀)

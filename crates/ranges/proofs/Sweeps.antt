@@ -160,10 +160,13 @@ module _ (W : ℕ) (f : ℕ → ℕ) where
         (λ e. let p = endsThere W r v x below e in
         let s = sweep (r ∷ rs) a t in
         let y = pastEnd W r in
-        let at = advances s rest h y (omega (arith, p .1)) (let k : y ≤ r .address + span W (r .length) = omega (arith, p .0) in k) (followFrom W x y rest (p .1) fol) in
+        let lasts : Lasts W y (r ∷ rs) = omega (arith, p .0) in
+        let at = advances s rest h y (omega (arith, p .1)) lasts (followFrom W x y rest (p .1) fol) in
         let done = closes (advanced y s) rest r rs (sameOpen s y) v (omega (arith, p .0, atLeast s y)) at in
         rw e (closing rs ((advanced y s) .reached) ((advanced y s) .made) (atMost s y x l (p .1)) done))
-        (λ e. let b = lastsBeyond W r v x top e in rw e (h, l, (let k : x + 1 ≤ r .address + span W (r .length) = omega arith in k)))
+        (λ e. let b = lastsBeyond W r v x top e in
+        let lasts : Lasts W (x + 1) (r ∷ rs) = omega arith in
+        rw e (h, l, lasts))
       where
         v : Valid W r
         v = h .begun r (List·Memᴰ·head refl) .0
@@ -211,7 +214,8 @@ follows : (W x : ℕ) (rs : List Route) → ((r : Route) → r ∈ rs → Valid 
 follows W x [] valid placed o above = tt
 follows W x (r ∷ rs) valid placed o above =
     let first = List·Memᴰ·head refl in
-    (valid r first, above r first, placed r first, follows W (r .address) rs (λ s m. valid s (List·Memᴰ·tail m)) (λ s m. placed s (List·Memᴰ·tail m)) (o .1) (λ s m. o .0 s m .address))
+    let rest = follows W (r .address) rs (λ s m. valid s (List·Memᴰ·tail m)) (λ s m. placed s (List·Memᴰ·tail m)) (o .1) (λ s m. o .0 s m .address) in
+    (valid r first, above r first, placed r first, rest)
 
 pub sweepMakes : (W : ℕ) (rs : List Route) → ((r : Route) → r ∈ rs → Valid W r) → Placed W rs → AllInOrder rs →
     sweptRanges W rs ≡ rangesOf W rs

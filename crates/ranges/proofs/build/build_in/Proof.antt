@@ -17,19 +17,24 @@ ok m = m .before .before .before .before .before .before .before .before .before
 returns : tie.Need-returns
 returns c =
     let m = c .before .before .before .before .before in
-    built-short (ok m) (m .merge-ranges .result) (m .merge-ranges .last .1 .1 .1 .1 .0) (m .merge-ranges .ensures .0) (m .merge-ranges .ensures .1) (rw (lt-ltb _ _ (c .if1 .taken)))
+    let r = m .merge-ranges in
+    built-short (ok m) (r .result) (r .last .1 .1 .1 .1 .0) (r .ensures .0) (r .ensures .1)
+    (rw (lt-ltb _ _ (c .if1 .taken)))
 
 returns-2 : tie.Need-returns-2
 returns-2 c =
     let m = c .before .before .before .before .before .before in
-    built-short (ok m) (m .merge-ranges .result) (m .merge-ranges .last .1 .1 .1 .1 .0) (m .merge-ranges .ensures .0) (m .merge-ranges .ensures .1) (rw (le-ltb _ _ (c .before .if1 .left), lt-ltb _ _ (c .if2 .taken)))
+    let r = m .merge-ranges in
+    built-short (ok m) (r .result) (r .last .1 .1 .1 .1 .0) (r .ensures .0) (r .ensures .1)
+    (rw (le-ltb _ _ (c .before .if1 .left), lt-ltb _ _ (c .if2 .taken)))
 
 returns-3 : tie.Need-returns-3
 returns-3 c =
     let w = c .before .before .before .before in
     let e = w .before .before .before .before in
     let m = e .before .before .before .before .before .before in
-    built-done (ok m) (m .merge-ranges .result) (m .merge-ranges .last .1 .1 .1 .1 .0) (m .merge-ranges .ensures .0) (m .merge-ranges .ensures .1)
+    let r = m .merge-ranges in
+    built-done (ok m) (r .result) (r .last .1 .1 .1 .1 .0) (r .ensures .0) (r .ensures .1)
     (search needs) (search needs) (w .write-rows .ensures .0) (w .write-rows .ensures .1)
 
 pub build-in-spec : {M : Type 1} → statement M

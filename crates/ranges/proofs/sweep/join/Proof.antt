@@ -15,7 +15,9 @@ returns-2 : tie.Need-returns-2
 returns-2 c =
     let e = c .before in
     let a = c .before .before .before .before .before .args in
-    ((omega arith, rw (c .word-of .ensures) (join-new (a .made) _ (rangeOf (a .r)) (search needs) (search needs) (search needs) (sym (e .before .ends-with .ensures) ∙ e .if1 .left))), length-set (a .words .now) (a .made) (c .word-of .result))
+    let new = join-new (a .made) (a .words .now) (rangeOf (a .r)) (search needs) (search needs) (search needs)
+    (sym (e .before .ends-with .ensures) ∙ e .if1 .left) in
+    ((omega arith, rw (c .word-of .ensures) new), length-set (a .words .now) (a .made) (c .word-of .result))
 
 pub join-spec : {M : Type 1} → statement M
 join-spec =
