@@ -2,7 +2,7 @@
 use Prim.Native.Nat.{_+_, _≤_}
 use mathlib.Core.Path.{_≡_, refl, sym, ap, subst, subst⁻¹, _∙_}
 use mathlib.Core.Logic.{_↔_}
-use mathlib.Core.Bool.{or-true, Bool, true, false, cond, _&&_}
+use mathlib.Core.Bool.{Bool, true, false, cond, _&&_}
 use mathlib.Core.List.{List, [], _∷_, List·Memᴰ, List·Memᴰ·head, List·Memᴰ·tail, List·Memᴰ·not-nil}
 use native.Mathlib.Omega.{arith}
 use lib.Dec.{eqb}
@@ -20,11 +20,7 @@ module _ {A : Type 0} where
   member P a (List·Memᴰ·head e) = subst P (sym e) (a .0)
   member P a (List·Memᴰ·tail m) = member P (a .1) m
 
-  -- any member that passes a test, none
-  pub any-so : (p : A → Bool) {x : A} {xs : List A} → List·Memᴰ x xs → p x ≡ true → any p xs ≡ true
-  any-so p (List·Memᴰ·head e) h = let h′ = rw e at h in rw h′
-  any-so p (List·Memᴰ·tail {x = x} m) h = rw (any-so p m h) (or-true (p x))
-
+  -- no member passes a test
   pub any-none : (p : A → Bool) (xs : List A) → ((x : A) → List·Memᴰ x xs → p x ≡ false) → any p xs ≡ false
   any-none p [] h = refl
   any-none p (x ∷ xs) h = neither (p x) (any p xs) (h x (List·Memᴰ·head refl)) (any-none p xs (λ y m. h y (List·Memᴰ·tail m)))

@@ -48,12 +48,12 @@ keyHop : (a n h : ℕ) → h < 65536 → (a * 4194304 + n * 65536 + h) % 65536 �
 keyHop a n h k = omega arith
 
 -- a route whose key says it
-pub record Fits (r : Route) : Type 0 where
+pub record Packable (r : Route) : Type 0 where
   pub address : r .address < 4294967296
   pub length : r .length < 64
   pub hop : r .hop < 65536
 
-pub keySays : (r : Route) → Fits r → routeIn (keyOf r) ≡ r
+pub keySays : (r : Route) → Packable r → routeIn (keyOf r) ≡ r
 keySays r f = rw (
   keyAddress (r .address) (r .length) (r .hop) (f .address) (f .length) (f .hop),
   keyLength (r .address) (r .length) (r .hop) (f .length) (f .hop),
@@ -73,7 +73,7 @@ keysOrder (k ∷ ks) b o = (
 )
 
 -- the sorted keys of a set say it, in order
-module _ (rs : List Route) (fits : (r : Route) → r ∈ rs → Fits r) where
+module _ (rs : List Route) (fits : (r : Route) → r ∈ rs → Packable r) where
   keysSay : SameSet rs (routesIn (sorted (keysOf rs)))
   keysSay r = (
     (λ m. subst (λ s. s ∈ routesIn (sorted (keysOf rs))) (keySays r (fits r m))
@@ -100,7 +100,7 @@ keysMake rs ok placed =
     sweepMakes 32 (routesIn (sorted (keysOf rs))) (λ r m. ok .valid r (same r .1 m)) (λ r m. placed r (same r .1 m)) (keysInOrder rs fits)
     ∙ rangesSame 32 rs (routesIn (sorted (keysOf rs))) ok placed same
   where
-    fits : (r : Route) → r ∈ rs → Fits r
+    fits : (r : Route) → r ∈ rs → Packable r
     fits r m =
         let v = ok .valid r m in
         record { address = placed r m; length = omega (arith, v .short); hop = omega (arith, v .small) }
