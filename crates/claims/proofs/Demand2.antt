@@ -1,5 +1,4 @@
--- Demand 2 holds of the list, of the slots and of the merged ranges: the routes are a set, whose longest match is right, and is what all
--- of them answer.
+-- Demand 2 holds: the routes are a set, whose longest match is right, and is what the list, the slots, the merged ranges and DXR answer.
 use Prim.Native.Nat.{ℕ, _^_, _≤_, _<_}
 use mathlib.Core.Path.{_≡_, refl, subst⁻¹}
 use mathlib.Core.Logic.{_↔_}
@@ -17,6 +16,7 @@ use Rattle.tcam.proofs.SlotsAgree.{slotsAgree}
 use Rattle.ranges.specs.Ranges.{Range, rangesOf}
 use Rattle.ranges.proofs.Boundaries.{Placed}
 use Rattle.ranges.proofs.RangesAgree.{rangesAgree, rangesFine, rangesOnly, rangesHop, rangesBelow, rangesSmall, rangesFew, rangesFewer}
+use Rattle.dxr.proofs.DxrAgrees.{dxrAgree, mainFit, wordsFit}
 use Rattle.claims.specs.Agreement.{Addresses, Agree, Fits, RangesFor, Demand2}
 
 module _ (W : ℕ) (ad ns hs : List ℕ) (s : RowsOfSet W ad ns hs) where
@@ -35,6 +35,7 @@ module _ (W : ℕ) (ad ns hs : List ℕ) (s : RowsOfSet W ad ns hs) where
     list = rw (rowsOfSet W ad ns hs .1 s);
     slots = slotsAgree W (routes ad ns hs) q set;
     ranges = λ small below. rangesAgree W (routes ad ns hs) (s .valid) (placed small) q below few;
+    dxr = λ S split small below rest. dxrAgree W S split (routes ad ns hs) few (s .valid) (placed small) rest q below;
   }
 
   table : Addresses W ad → (t : List Range) → RangesFor W (routes ad ns hs) t ↔ (t ≡ rangesOf W (routes ad ns hs))
@@ -51,6 +52,8 @@ module _ (W : ℕ) (ad ns hs : List ℕ) (s : RowsOfSet W ad ns hs) where
   fits small = record {
     starts = rangesBelow W (routes ad ns hs) (s .valid) (placed small);
     hops = rangesSmall W (routes ad ns hs) (s .valid) (placed small);
+    main = λ S split. mainFit W S split (routes ad ns hs) few (s .valid) (placed small);
+    words = λ S split. wordsFit W S split (routes ad ns hs) few (s .valid) (placed small);
     few = rangesFew W (routes ad ns hs);
     fewer = λ r m e. rangesFewer W (routes ad ns hs) r m (s .valid r m) e (placed small r m);
   }

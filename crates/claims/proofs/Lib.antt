@@ -1,4 +1,4 @@
--- Demand 2 holds, as far as it is built, and the board cases do.
+-- Demand 2 holds, and so do the board cases.
 pub mod Demand2
 pub mod Board
 -- Demand 3, from the bottom up. First lists: how many members have a property, members, lists joined from either side.

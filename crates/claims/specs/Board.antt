@@ -1,7 +1,7 @@
 -- The board cases that are to be proved, in one list: what the definitions give, and what is expected. proofs/Board has the one proof.
 --
 -- Each is a row of numbers. The plain answer is one number. A table is shown slot by slot; a plan as its own numbers, three to a write; a
--- range as its start and its hop.
+-- range as its start and its hop; a chunk as its main word and its range words.
 use Prim.Native.Nat.{ℕ, _+_, _*_}
 use mathlib.Core.List.{List, [], _∷_, _++_, map}
 use lib.ListN.{length, replicate}
@@ -14,18 +14,22 @@ use Rattle.tcam.specs.Plans
 use Rattle.tcam.specs.Plans.{Write, Planned, refuses, writes, planSet, planRemove}
 use Rattle.tcam.specs.Applies.{written}
 use Rattle.ranges.specs.Ranges.{Range, rangesOf}
+use Rattle.dxr.specs.Dxr.{chunk, words, mainWord, allWords}
 use Rattle.claims.specs.Sequence.{mostToSet, mostToRemove}
 
 -- an address by its four octets
 abbrev pub ip : ℕ → ℕ → ℕ → ℕ → ℕ
 ip a b c d = ((a * 256 + b) * 256 + c) * 256 + d
 
--- set P without its /0, and whole
+-- set P without its /0, whole, and without its /32
 abbrev pub withoutDefault : List Route
 withoutDefault = route (ip 10 0 0 0) 8 1 ∷ route (ip 10 20 0 0) 16 2 ∷ route (ip 10 20 4 0) 24 3 ∷ route (ip 10 20 4 9) 32 2 ∷ []
 
 abbrev pub setP : List Route
 setP = withoutDefault ++ (route 0 0 7 ∷ [])
+
+abbrev pub without32 : List Route
+without32 = route (ip 10 0 0 0) 8 1 ∷ route (ip 10 20 0 0) 16 2 ∷ route (ip 10 20 4 0) 24 3 ∷ route 0 0 7 ∷ []
 
 -- an answer as a row of numbers
 abbrev pub numbers : Answer → List ℕ
@@ -70,7 +74,17 @@ abbrev pub shownRanges : List Range → List ℕ
 shownRanges [] = []
 shownRanges (r ∷ rs) = r .start ∷ r .hop ∷ shownRanges rs
 
--- cases a to d, e, f, g, h; then the most writes of a set and of a removal over 32 bits
+-- chunk c of a set's DXR table with a 16-bit split: its main word, then its range words
+abbrev pub shownChunk : List Route → ℕ → List ℕ
+shownChunk rs c = mainWord entries (length (allWords 32 16 t c)) ∷ words entries
+  where
+    t : List Range
+    t = rangesOf 32 rs
+
+    entries : List Range
+    entries = chunk 32 16 t c
+
+-- cases a to d, e, f, g, h, i, j; then the most writes of a set and of a removal over 32 bits
 abbrev pub got : List (List ℕ)
 got =
     found setP (ip 10 20 4 9)
@@ -82,6 +96,8 @@ got =
     ∷ shownSlots eightSlots
     ∷ Plans.numbers (removeWrites eightSlots (ip 10 20 4 0) 24)
     ∷ shownRanges (rangesOf 32 setP)
+    ∷ shownChunk setP 2580
+    ∷ shownChunk without32 2580
     ∷ (mostToSet 32 ∷ mostToRemove 32 ∷ [])
     ∷ []
 
@@ -99,5 +115,7 @@ expected =
     ∷ (1 ∷ ip 10 20 0 0 ∷ (16 * 65536 + 2) ∷ 2 ∷ 0 ∷ 0 ∷ [])
     ∷ (0 ∷ 7 ∷ ip 10 0 0 0 ∷ 1 ∷ ip 10 20 0 0 ∷ 2 ∷ ip 10 20 4 0 ∷ 3 ∷ ip 10 20 4 9 ∷ 2
     ∷ ip 10 20 4 10 ∷ 3 ∷ ip 10 20 5 0 ∷ 2 ∷ ip 10 21 0 0 ∷ 1 ∷ ip 11 0 0 0 ∷ 7 ∷ [])
+    ∷ (1074069504 ∷ 2 ∷ 67108867 ∷ 67698690 ∷ 67764227 ∷ 83886082 ∷ [])
+    ∷ (2147680256 ∷ 132099 ∷ 84017152 ∷ [])
     ∷ (17 ∷ 18 ∷ [])
     ∷ []

@@ -11,6 +11,8 @@ ghost use Rattle.tcam.specs.Plans.{planSet, planRemove, planAnswer, rowAfter};
 ghost use Rattle.tcam.specs.Applies.{applyAnswer, appliedAddresses, appliedTags};
 ghost use Rattle.ranges.specs.Ranges.{rangeLookup};
 ghost use Rattle.ranges.specs.Builds.{rangesAnswer, builtStarts, builtHops};
+ghost use Rattle.dxr.specs.Dxr.{dxrLookup};
+ghost use Rattle.dxr.specs.Builds.{dxrAnswer, builtMain, builtWords};
 ghost use lib.ListN;
 use route::Counted;
 use route::Found;
@@ -129,6 +131,31 @@ pub extern "C" fn hawkmortar_range_lookup(starts: &[u32], range_hops: &[u32], q:
     ensures { λ r. ⌜ r ≡ outcome (rangeLookup (now (starts .entry)) (now («range_hops» .entry)) q) ⌝ }
 {
     of_found(ranges::lookup::lookup(starts, range_hops, q))
+}
+
+// Builds the DXR table of a list in a main table and in the front of a row of range words; the value
+// is how many range words there are.
+#[no_mangle]
+pub extern "C" fn hawkmortar_dxr_build(
+    addresses: &[u32],
+    lengths: &[u32],
+    hops: &[u32],
+    main: &mut [u32],
+    words: &mut [u32],
+) -> Outcome
+    ensures { λ r. ⌜ r ≡ outcome (dxrAnswer 32 16 (now (addresses .entry)) (now (lengths .entry)) (now (hops .entry)) (now (main .entry)) (now (words .entry))) ⌝ }
+    ensures { λ r. ⌜ now (main .exit) ≡ builtMain 32 16 (now (addresses .entry)) (now (lengths .entry)) (now (hops .entry)) (now (main .entry)) (now (words .entry)) ⌝ }
+    ensures { λ r. ⌜ now (words .exit) ≡ builtWords 32 16 (now (addresses .entry)) (now (lengths .entry)) (now (hops .entry)) (now (main .entry)) (now (words .entry)) ⌝ }
+{
+    of_counted(dxr::build::build(addresses, lengths, hops, main, words))
+}
+
+// Looks q up in a DXR table; the value is the next hop, 0 for none.
+#[no_mangle]
+pub extern "C" fn hawkmortar_dxr_lookup(main: &[u32], words: &[u32], q: u32) -> Outcome
+    ensures { λ r. ⌜ r ≡ outcome (dxrLookup 32 16 (now (main .entry)) (now (words .entry)) q) ⌝ }
+{
+    of_found(dxr::lookup::lookup(main, words, q))
 }
 
 // An accepted call's value.

@@ -19,7 +19,7 @@ use Rattle.ranges.proofs.MergedRanges.{mergedFew, mergedSay}
 use Rattle.ranges.proofs.Says.{Table, table-hop, table-fine, table-once, table-same, table-each, table-looked-up}
 
 -- the rows of starts and hops say the ranges
-rowsSay : (t : List Range) → ranges (startsOf t) (hopsOf t) ≡ t
+pub rowsSay : (t : List Range) → ranges (startsOf t) (hopsOf t) ≡ t
 rowsSay [] = refl
 rowsSay (r ∷ rs) = ap (λ l. r ∷ l) (rowsSay rs)
 

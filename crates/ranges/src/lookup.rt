@@ -42,7 +42,7 @@ fn breaks_behind(p: Range, r: Range) -> bool
 }
 
 // The hop for q, of the range if it starts at or below q, of those before it otherwise.
-fn hop_from(r: Range, q: u32, before: u32) -> u32
+pub fn hop_from(r: Range, q: u32, before: u32) -> u32
     ensures { λ h. ⌜ h ≡ cond (leb (r .start) q) (r .hop) before ⌝ }
 {
     if r.start <= q { r.hop } else { before }

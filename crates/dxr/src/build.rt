@@ -1,0 +1,131 @@
+// The build: the DXR table of a list, written to a lent main table and to lent range words.
+//
+// The merged ranges of the list are built in rows of this call's own. A first pass over the chunks
+// counts the range words and the room is tested; only then does a second pass write. Both go through
+// the ranges once: a chunk's ranges begin with the last that starts at or before its first address.
+ghost use mathlib.Core.Path.{_≡_};
+ghost use Prim.Native.Nat.{_+_, _*_, _≤_, _<_};
+ghost use lib.ListN.{length, getD};
+ghost use Rattle.route.specs.Shown.{counted};
+ghost use Rattle.ranges.specs.Ranges.{ranges};
+ghost use Rattle.ranges.specs.Builds.{overwritten};
+ghost use Rattle.dxr.specs.Dxr.{tableWords, tableMain};
+ghost use Rattle.dxr.specs.Builds.{IsBuilt};
+ghost use Rattle.dxr.specs.Loops.{LastAt, Splittable, IsSplit};
+ghost use Rattle.dxr.specs.Shown.{IsPart};
+use crate::Built;
+use crate::MAIN_WORDS;
+use crate::chunk;
+use route::Counted;
+use route::Refusal;
+
+// The ranges of a chunk: from the first up to the end.
+struct Part {
+    first: usize,
+    end: usize,
+}
+
+// The last range, from range `from` on, that starts at or before address x.
+fn last_at(starts: &[u32], from: usize, x: u32) -> usize
+    requires { ⌜ (from < length (now starts)) × (getD (now starts) from 0 ≤ x) ⌝ }
+    ensures { λ r. ⌜ LastAt x (now (starts .entry)) r × (from ≤ r) ⌝ }
+{
+    let mut i = from;
+    while i + 1 < starts.len() && starts[i + 1] <= x {
+        i += 1;
+    }
+    i
+}
+
+// The ranges of the chunk that starts at address base; range `from` starts at or before it.
+fn part_at(starts: &[u32], from: usize, base: u32) -> Part
+    requires { ⌜ (from < length (now starts)) × (getD (now starts) from 0 ≤ base) × (base + 65535 < 4294967296) ⌝ }
+    ensures { λ r. ⌜ IsPart base (base + 65535) (now (starts .entry)) r ⌝ }
+{
+    let first = last_at(starts, from, base);
+    let last = last_at(starts, first, base + 65535);
+    Part {
+        first,
+        end: last + 1,
+    }
+}
+
+// How many range words the table of these ranges has.
+fn count_words(starts: &[u32], hops: &[u32]) -> usize
+    requires { ⌜ Splittable 32 16 (now starts) (now hops) ⌝ }
+    ensures { λ r. ⌜ r ≡ length (tableWords 32 16 (ranges (now (starts .entry)) (now (hops .entry)))) ⌝ }
+{
+    let mut from = 0;
+    let mut count = 0;
+    let mut c = 0;
+    while c < MAIN_WORDS {
+        let base = (c * 65536) as u32;
+        let part = part_at(starts, from, base);
+        let first = part.first;
+        let end = part.end;
+        count += chunk::count(&starts[first..end], &hops[first..end], base);
+        from = end - 1;
+        c += 1;
+    }
+    count
+}
+
+// Writes the table of these ranges.
+fn write_table(starts: &[u32], hops: &[u32], main: &mut [u32], words: &mut [u32])
+    requires { ⌜ Splittable 32 16 (now starts) (now hops) ⌝ }
+    requires { ⌜ (length (now main) ≡ 65536) × (length (tableWords 32 16 (ranges (now starts) (now hops))) ≤ length (now words)) ⌝ }
+    ensures { λ r. ⌜ now (main .exit) ≡ overwritten (tableMain 32 16 (ranges (now (starts .entry)) (now (hops .entry)))) (now (main .entry)) ⌝ }
+    ensures { λ r. ⌜ now (words .exit) ≡ overwritten (tableWords 32 16 (ranges (now (starts .entry)) (now (hops .entry)))) (now (words .entry)) ⌝ }
+{
+    let mut from = 0;
+    let mut used = 0;
+    let mut c = 0;
+    while c < MAIN_WORDS {
+        let base = (c * 65536) as u32;
+        let part = part_at(starts, from, base);
+        let first = part.first;
+        let end = part.end;
+        let stored = chunk::store(&starts[first..end], &hops[first..end], base, words, used);
+        main[c] = stored.word;
+        used = stored.used;
+        from = end - 1;
+        c += 1;
+    }
+}
+
+// The table of ranges of which one can be made: how many range words it has, or refusal 9.
+fn split(starts: &[u32], hops: &[u32], main: &mut [u32], words: &mut [u32]) -> Built
+    requires { ⌜ Splittable 32 16 (now starts) (now hops) × (length (now main) ≡ 65536) ⌝ }
+    ensures { λ r. ⌜ IsSplit 32 16 (ranges (now (starts .entry)) (now (hops .entry))) (now (main .entry)) (now (words .entry)) (counted r) (now (main .exit)) (now (words .exit)) ⌝ }
+{
+    let count = count_words(starts, hops);
+    if words.len() < count {
+        return Counted::Refused(Refusal::Room);
+    }
+    write_table(starts, hops, main, words);
+    Counted::Count(count)
+}
+
+// Builds the DXR table of a list in a main table of 65,536 words and in the front of a row of range
+// words: how many of these there are, or refusals 8, for a main table of another size or as of
+// `list::check`, 1 to 4 as of that, or 9 where the row is shorter than that. A refusal leaves both as
+// they were.
+pub fn build(
+    addresses: &[u32],
+    lengths: &[u32],
+    hops: &[u32],
+    main: &mut [u32],
+    words: &mut [u32],
+) -> Built
+    ensures { λ r. ⌜ IsBuilt 32 16 (now (addresses .entry)) (now (lengths .entry)) (now (hops .entry)) (now (main .entry)) (now (words .entry)) (counted r) (now (main .exit)) (now (words .exit)) ⌝ }
+{
+    if main.len() != MAIN_WORDS {
+        return Counted::Refused(Refusal::Size);
+    }
+    let mut starts = [0u32; 8193];
+    let mut range_hops = [0u32; 8193];
+    match ranges::build::build(addresses, lengths, hops, &mut starts, &mut range_hops) {
+        Counted::Refused(f) => Counted::Refused(f),
+        Counted::Count(n) => split(&starts[..n], &range_hops[..n], main, words),
+    }
+}
