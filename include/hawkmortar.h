@@ -31,6 +31,12 @@ extern "C" {
 /* The most ranges of a table; the least is 1. */
 #define HAWKMORTAR_MAX_RANGES 8193
 
+/* The words of a DXR table's main table, one for each chunk of 65,536 addresses. */
+#define HAWKMORTAR_MAIN_WORDS 65536
+
+/* The most range words of a DXR table that is built: enough room for any list. */
+#define HAWKMORTAR_MAX_RANGE_WORDS 12288
+
 /* The most writes of a plan that sets a prefix, and of one that removes it; a write is three numbers. */
 #define HAWKMORTAR_MAX_SET_WRITES 17
 #define HAWKMORTAR_MAX_REMOVE_WRITES 18
@@ -169,6 +175,43 @@ struct hawkmortar_outcome hawkmortar_ranges_build(
 struct hawkmortar_outcome hawkmortar_range_lookup(
     const uint32_t *starts, size_t starts_len,
     const uint32_t *range_hops, size_t range_hops_len,
+    uint32_t q);
+
+/*
+ * DXR: a main table of 65,536 words, one for each chunk of 65,536 addresses, and a row of range words. A
+ * chunk's entries are the merged ranges inside it, with starts counted from its first address; the first
+ * starts at 0, and hop 0 is none. The main word of one entry is its hop. Otherwise it is kind x 2^30 +
+ * count x 65,536 + position, position being the index of the chunk's first range word. Kind 1 is long: each
+ * range word is start x 65,536 + hop. Kind 2 is short, used exactly where every start is a multiple of 256
+ * and every hop is at most 255: 16 bits an entry, (start / 256) x 256 + hop, two to a word, the earlier in
+ * the upper half, an odd last half 0. Chunks are stored in rising order with no gap.
+ */
+
+/*
+ * Builds the DXR table of a list.
+ * Value: the number of range words, at most 12,288. They stand at the front of words, the rest of which is
+ * left as it was. All of main is written.
+ * Refusals: 8 for a main table that has not 65,536 words; as of hawkmortar_list_check; 9 where words has
+ * fewer numbers than there are range words.
+ */
+struct hawkmortar_outcome hawkmortar_dxr_build(
+    const uint32_t *addresses, size_t addresses_len,
+    const uint32_t *lengths, size_t lengths_len,
+    const uint32_t *hops, size_t hops_len,
+    uint32_t *main, size_t main_len,
+    uint32_t *words, size_t words_len);
+
+/*
+ * Looks the address q up in a DXR table.
+ * Value: the next hop of the last entry of its chunk that starts at or below q, 0 where that is none.
+ * Refusals: 8 for a main table that has not 65,536 words; 7, the place being the chunk, q / 65,536, where
+ * that breaks a rule: a word of kind 0 over 65,535; kind 3; a count below 2; entries that are not inside
+ * words; a start that is not 0 for the first entry or not above the start before for another. The other
+ * chunks are not tested, nor is the half of a word behind an odd number of short entries.
+ */
+struct hawkmortar_outcome hawkmortar_dxr_lookup(
+    const uint32_t *main, size_t main_len,
+    const uint32_t *words, size_t words_len,
     uint32_t q);
 
 #ifdef __cplusplus

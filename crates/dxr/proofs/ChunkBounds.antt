@@ -4,13 +4,14 @@ use Prim.Native.Nat.{ℕ, _+_, _-_, _*_, _/_, _%_, _^_, _≤_, _<_}
 use mathlib.Core.Path.{_≡_, sym, _∙_}
 use lib.Dec.{ltb}
 use lib.Pow.{pow-pos, shr-shr, mod-mod-pow}
-use native.Mathlib.Nat.{div-add-mod', add-mod-right, div-eq-of-lt-le, add-sub-of-le, mod-eq-of-lt, mod-self}
+use native.Mathlib.Nat.{div-add-mod', add-mod-right, div-eq-of-lt-le, add-sub-of-le}
 use native.Mathlib.Omega.{arith}
 use Rattle.route.specs.Rule.{Route, span}
 use Rattle.route.specs.RowsOfSet.{Valid}
 use Rattle.route.proofs.Tests.{orders, byTest}
-use Rattle.route.proofs.Spans.{span-pos, aligned-longer, end-within}
+use Rattle.route.proofs.Spans.{span-pos, aligned-longer}
 use Rattle.ranges.specs.Ranges.{pastEnd}
+use Rattle.ranges.proofs.Spans.{endPast}
 use Rattle.dxr.specs.Dxr.{chunkSize}
 
 -- x lies in chunk c and is not its first address
@@ -51,13 +52,6 @@ module _ (W S : ℕ) (narrow : S ≤ W) (r : Route) (v : Valid W r) where
       parts : W - r .length + (r .length - S) ≡ W - S
       parts = omega (arith, v .short)
 
-  -- an end that is not 0 is one past the last address
-  endPast : r .address < 2 ^ W → 0 < pastEnd W r → pastEnd W r ≡ end
-  endPast below pos = byTest (ltb end (2 ^ W))
-      (λ t. mod-eq-of-lt (omega orders))
-      (λ t. let e : end ≡ 2 ^ W = omega (orders, end-within W (r .address) (r .length) (v .short) (v .aligned) below) in
-      let z : pastEnd W r ≡ 0 = rw e (mod-self (2 ^ W)) in absurd (omega arith))
-
   pub startInside : (c : ℕ) → Inside W S c (r .address) → LongIn W S c r
   startInside c h = byTest (ltb S (r .length))
       (λ t. (omega orders, chunkOf W S c (r .address) h))
@@ -65,7 +59,7 @@ module _ (W S : ℕ) (narrow : S ≤ W) (r : Route) (v : Valid W r) where
 
   pub endInside : (c : ℕ) → r .address < 2 ^ W → Inside W S c (pastEnd W r) → LongIn W S c r
   endInside c below h = byTest (ltb S (r .length))
-      (λ t. (omega orders, sym (oneChunk (omega orders)) ∙ lastIn (endPast below (omega arith))))
+      (λ t. (omega orders, sym (oneChunk (omega orders)) ∙ lastIn (endPast W r v below (omega arith))))
       (λ t. absurd (notInside W S c (pastEnd W r) (wholeChunksEnd (omega orders)) h))
     where
       lastIn : pastEnd W r ≡ end → (r .address + (span W (r .length) - 1)) / chunkSize W S ≡ c

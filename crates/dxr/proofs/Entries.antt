@@ -1,14 +1,13 @@
 -- The entries that a chunk's ranges make, and their words, by place.
 use Prim.Native.Nat.{ℕ, zero, suc, _+_, _-_, _*_, _%_, _≤_, _<_}
 use mathlib.Core.Path.{_≡_, refl, sym, _∙_, ap}
-use mathlib.Core.Bool.{Bool, true, false, _&&_}
-use mathlib.Core.List.{List, [], _∷_, append-assoc}
+use mathlib.Core.Bool.{Bool, true, false}
+use mathlib.Core.List.{List, [], _∷_}
 use native.Mathlib.Omega.{arith}
-use native.Mathlib.Numerals.{add-one}
 use borrow.Rule.Slice.PartMut.{midOf, putMid, mid-len}
-use lib.ListN.{length, getD, take, drop, length-map, drop-of-length-le, List·getD-map, List·getD-eq-default}
+use lib.ListN.{length, getD, drop, length-map, drop-of-length-le, List·getD-map, List·getD-eq-default}
 use lib.Dec.{eqb, leb}
-use lib.Seq.{drop-drop, sets, sets-eq}
+use lib.Seq.{sets}
 use Rattle.route.specs.Limits.{maxHop}
 use Rattle.route.proofs.Tests.{orders, and-parts, all-three}
 use Rattle.ranges.specs.Ranges.{Range, range, ranges}
@@ -20,6 +19,7 @@ use Rattle.dxr.specs.Loops.{entryFrom, entriesFrom, Fits, Encodable, Has
 use Rattle.dxr.specs.Shown.{IsStored}
 use Rattle.dxr.specs.declared.chunk.Stored.{Stored}
 use Rattle.dxr.proofs.ChunkWords.{encodedLength}
+use Rattle.dxr.proofs.Rows.{put-sets}
 
 -- as many ranges as starts, in the same places
 rangesLength : (ss hs : List ℕ) → length ss ≡ length hs → length (ranges ss hs) ≡ length ss
@@ -164,9 +164,8 @@ module _ {b : ℕ} {ss hs ws : List ℕ} {used : ℕ} (h : HasRoom b ss hs ws us
     -- put back, they are the words written behind those that are used
     in-place : putMid used (used + n - used) ws (encoded form (entriesFrom b ss hs)) ≡ sets ws used (encoded form (entriesFrom b ss hs))
     in-place =
-        let size : length (encoded form (entriesFrom b ss hs)) ≡ n = encoded-size stored-form ∙ sym many in
-        rw (part-many, drop-drop n used ws, ← append-assoc (take used ws) (encoded form (entriesFrom b ss hs)) (drop (used + n) ws))
-        (sym (rw size at (sets-eq (encoded form (entriesFrom b ss hs)) ws used (rw size stored-end))))
+        rw part-many
+        (put-sets ws (encoded form (entriesFrom b ss hs)) used n (encoded-size stored-form ∙ sym many) stored-end)
 
     pub stored-many : {s : Stored} → s .word ≡ pointer form (length ss) used → s .used ≡ used + n → {part : List ℕ} →
         part ≡ encoded form (entriesFrom b ss hs) →

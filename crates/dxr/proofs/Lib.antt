@@ -8,8 +8,10 @@ pub mod DxrTable
 pub mod ChunkBounds
 pub mod Room
 pub mod DxrAgrees
--- The loops, by family: the lookup's pass, a chunk's entries, a chunk's part of the ranges, the passes over the chunks; the build.
+-- The lookup's pass over a part.
 pub mod Scans
+-- The build: rows written in parts, a chunk's entries, a chunk's part of the ranges, the passes over the ranges, what is left in the end.
+pub mod Rows
 pub mod Entries
 pub mod Parts
 pub mod Passes

@@ -1,19 +1,22 @@
 -- The part of a range table that makes a chunk's entries: from the last range that starts at or before its first address up to the last one
 -- that starts at or before its last address.
 use Prim.Native.Nat.{ℕ, zero, suc, _+_, _-_, _*_, _≤_, _<_}
-use mathlib.Core.Path.{_≡_, refl, sym, _∙_, ap, ap₂}
+use mathlib.Core.Path.{_≡_, refl, sym, _∙_, ap}
 use mathlib.Core.List.{List, [], _∷_, map}
 use native.Mathlib.Omega.{arith}
+use native.Mathlib.Nat.{add-zero}
 use borrow.Author.Tests.{le-leb, le-ltb, lt-ltb}
-use lib.ListN.{length, getD, take, drop}
+use lib.ListN.{length, getD, take, drop, length-drop}
 use lib.Pow.{pow-pos}
+use lib.Seq.{length-take-le, getD-take, getD-drop}
 use Rattle.ranges.specs.Ranges.{Range, range, ranges, startsOf, hopAt}
-use Rattle.dxr.specs.Dxr.{chunkSize, inside, chunk}
-use Rattle.dxr.specs.Loops.{LastAt, entryFrom, entriesFrom}
+use Rattle.dxr.specs.Dxr.{chunkSize, inside, chunk, words, mainWord}
+use Rattle.dxr.specs.Loops.{LastAt, entryFrom, entriesFrom, Splittable}
 use Rattle.dxr.specs.Shown.{IsPart}
 use Rattle.dxr.specs.declared.build.Part.{Part}
-use Rattle.dxr.proofs.Rising.{StartsRise, riseFrom, early}
+use Rattle.dxr.proofs.Rising.{StartsRise, riseFrom, early, fine-rises}
 use Rattle.dxr.proofs.Chunks.{insideNone}
+use Rattle.dxr.proofs.Entries.{entries-length, entries-get, one-words, one-main}
 
 -- no start is below the first
 least : (lo : ℕ) (t : List Range) (i : ℕ) → StartsRise lo t → i < length (startsOf t) → lo ≤ getD (startsOf t) i 0
@@ -86,17 +89,66 @@ dropSays (suc n) [] hs = refl
 dropSays (suc n) (s ∷ ss) [] = noHops (drop n ss)
 dropSays (suc n) (s ∷ ss) (h ∷ hs) = dropSays n ss hs
 
--- the part of the rows that makes the entries of chunk c
-module _ (W S c : ℕ) (ss hs : List ℕ) (e : length ss ≡ length hs) (rise : StartsRise 0 (ranges ss hs)) {p : Part}
-    (is : IsPart (c * chunkSize W S) (c * chunkSize W S + (chunkSize W S - 1)) ss p) where
-  pub chunk-part : chunk W S (ranges ss hs) c
-      ≡ entriesFrom (c * chunkSize W S) (take (p .end - p .first) (drop (p .first) ss)) (take (p .end - p .first) (drop (p .first) hs))
-  chunk-part =
-      let b = c * chunkSize W S in
-      let l = b + (chunkSize W S - 1) in
-      let n = p .end - p .first in
-      let past : (c + 1) * chunkSize W S ≡ l + 1 = omega (arith, pow-pos (W - S)) in
-      let count : p .end - 1 + 1 - p .first ≡ n = omega (arith, is .some) in
-      rw (past, takeSays n (drop (p .first) ss) (drop (p .first) hs), dropSays (p .first) ss hs, ← count)
-      (partIs b l 0 0 (ranges ss hs) (p .first) (p .end - 1) rise (rw (startsSay ss hs e) (is .first)) (rw (startsSay ss hs e) (is .last))
-      (omega (arith, is .some)))
+-- the part of both rows that makes the entries of chunk c
+module _ {W S c : ℕ} {ss : List ℕ} {p : Part} (is : IsPart W S c ss p) where
+  abbrev pub part : List ℕ → List ℕ
+  part row = take (p .end - p .first) (drop (p .first) row)
+
+  module _ {hs : List ℕ} (rows : Splittable W S ss hs) where
+    pub part-lies : (p .first < p .end) × (p .end ≤ length ss) × (p .end ≤ length hs)
+    part-lies =
+        let e : p .end ≤ length ss = omega (arith, is .some, is .last .within) in
+        (is .some, e, omega (arith, rows .equal))
+
+    size : (row : List ℕ) → p .end ≤ length row → length (part row) ≡ p .end - p .first
+    size row l = length-take-le (p .end - p .first) (drop (p .first) row) (simp length-drop (omega (arith, is .some)))
+
+    pub part-equal : length (part ss) ≡ length (part hs)
+    part-equal = size ss (part-lies .1) ∙ sym (size hs (part-lies .2))
+
+    pub part-some : 0 < length (part ss)
+    part-some = omega (arith, size ss (part-lies .1), is .some)
+
+    pub part-few : length (part ss) < 16384
+    part-few = omega (arith, size ss (part-lies .1), part-lies, rows .few)
+
+    pub chunk-part : chunk W S (ranges ss hs) c ≡ entriesFrom (c * chunkSize W S) (part ss) (part hs)
+    chunk-part =
+        let b = c * chunkSize W S in
+        let l = b + (chunkSize W S - 1) in
+        let n = p .end - p .first in
+        let past : (c + 1) * chunkSize W S ≡ l + 1 = omega (arith, pow-pos (W - S)) in
+        let count : p .end - 1 + 1 - p .first ≡ n = omega (arith, is .some) in
+        rw (past, takeSays n (drop (p .first) ss) (drop (p .first) hs), dropSays (p .first) ss hs, ← count)
+        (partIs b l 0 0 (ranges ss hs) (p .first) (p .end - 1) (fine-rises (ranges ss hs) (rows .rules) .rise)
+        (rw (startsSay ss hs (rows .equal)) (is .first)) (rw (startsSay ss hs (rows .equal)) (is .last)) (omega (arith, is .some)))
+
+-- a chunk of one range: it has no words, and its main word is the range's hop
+module _ {W S : ℕ} {ss hs : List ℕ} (rows : Splittable W S ss hs) (from c : ℕ) (within : from < length ss)
+    (start : getD ss from 0 ≤ c * chunkSize W S) (next : from + 1 < length ss → (c + 1) * chunkSize W S ≤ getD ss (from + 1) 0) where
+  alone : IsPart W S c ss (record { first = from; end = from + 1 })
+  alone =
+      let e : from + 1 - 1 ≡ from = omega arith in
+      record {
+        some = omega arith;
+        first = record { within = within; start = start; next = λ l. omega (arith, next l, pow-pos (W - S)) };
+        last = rw e (record { within = within; start = omega arith; next = λ l. omega (arith, next l, pow-pos (W - S)) });
+      }
+
+  abbrev entry : List Range
+  entry = entriesFrom (c * chunkSize W S) (part alone ss) (part alone hs)
+
+  oneEntry : length entry ≡ 1
+  oneEntry = entries-length (c * chunkSize W S) (part alone ss) (part alone hs) (part-equal alone rows) ∙ size alone rows ss (omega arith) ∙ omega arith
+
+  pub alone-words : words (chunk W S (ranges ss hs) c) ≡ []
+  alone-words = rw (chunk-part alone rows) (one-words entry oneEntry)
+
+  pub alone-main : (position : ℕ) → mainWord (chunk W S (ranges ss hs) c) position ≡ getD hs from 0
+  alone-main position =
+      rw (chunk-part alone rows)
+      (one-main entry position oneEntry
+      ∙ ap (λ r. r .hop) (entries-get (c * chunkSize W S) (part alone ss) (part alone hs) (part-equal alone rows) 0)
+      ∙ getD-take (from + 1 - from) (drop from hs) 0 0 (omega arith)
+      ∙ getD-drop from hs 0 0
+      ∙ ap (λ i. getD hs i 0) (add-zero from))

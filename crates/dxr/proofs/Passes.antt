@@ -1,13 +1,17 @@
--- The passes over the chunks of a range table: which ranges are passed at each chunk, how many words there are, what is written.
-use Prim.Native.Nat.{ℕ, suc, _+_, _-_, _*_, _^_, _≤_, _<_}
+-- The passes over a range table, from one chunk in which a range starts to the next: which chunks and ranges are passed, how many words
+-- there are, what is written.
+use Prim.Native.Nat.{ℕ, zero, suc, _+_, _-_, _*_, _/_, _^_, _≤_, _<_}
 use mathlib.Core.Path.{_≡_, refl, sym, _∙_, ap}
-use mathlib.Core.List.{List, [], _∷_, _++_}
+use mathlib.Core.List.{List, [], _∷_, _++_, append-nil, append-assoc}
 use native.Mathlib.Omega.{arith}
-use native.Mathlib.Nat.{add-zero, zero-add}
+use native.Mathlib.Nat.{add-zero, div-add-mod', mod-lt, mul-le-mul-right, le-div-iff-mul-le}
 use native.Mathlib.Numerals.{add-one}
-use lib.ListN.{length, getD, take, drop, set, length-take, length-drop, length-append}
+use lib.Dec.{eqb}
+use borrow.Rule.Slice.PartMut.{midOf, putMid, mid-len}
+use lib.ListN.{length, getD, set, replicate, length-append, length-replicate, replicate-append-replicate}
 use lib.Pow.{pow-pos}
-use lib.Seq.{length-take-le, length-sets, sets, sets-eq}
+use lib.Seq.{length-sets, sets}
+use Rattle.route.proofs.Tests.{orders, byTest}
 use Rattle.ranges.specs.Ranges.{Range, ranges, startsOf}
 use Rattle.ranges.specs.Builds.{overwritten}
 use Rattle.dxr.specs.Dxr.{chunkSize, chunk, words, mainWord, allWords, mainWords, tableWords, tableMain}
@@ -16,104 +20,146 @@ use Rattle.dxr.specs.Loops.{entriesFrom, HasRoom, Splittable}
 use Rattle.dxr.specs.Shown.{IsPart, IsStored}
 use Rattle.dxr.specs.declared.build.Part.{Part}
 use Rattle.dxr.specs.declared.chunk.Stored.{Stored}
-use Rattle.dxr.proofs.Rising.{StartsRise, fine-rises}
-use Rattle.dxr.proofs.DxrTable.{fit, stands, mainLength}
-use Rattle.dxr.proofs.Parts.{startsSay, chunk-part}
+use Rattle.dxr.proofs.Rising.{fine-rises}
+use Rattle.dxr.proofs.Rows.{put-sets, sets-more, sets-front}
+use Rattle.dxr.proofs.DxrTable.{chunkThere, fit, stands, mainLength}
+use Rattle.dxr.proofs.Parts.{startsSay, part, part-equal, part-some, part-few, chunk-part, alone-words, alone-main}
 
--- chunk c is next, and range `from` starts at or before it
+-- chunk c is next: range `from` starts at or before its first address, and those behind it start there or later
 pub record ReachedTo (W S : ℕ) (ss hs : List ℕ) (from c : ℕ) : Type 0 where
   pub rows : Splittable W S ss hs
+  pub upto : c ≤ 2 ^ S
   pub within : from < length ss
   pub start : getD ss from 0 ≤ c * chunkSize W S
+  pub next : from + 1 < length ss → c * chunkSize W S ≤ getD ss (from + 1) 0
 
 pub reached-start : {W S : ℕ} {ss hs : List ℕ} → Splittable W S ss hs → ReachedTo W S ss hs 0 0
 reached-start {ss = ss} {hs} h =
     let r = fine-rises (ranges ss hs) (h .rules) in
     let e = sym (startsSay ss hs (h .equal)) ∙ ap startsOf (r .whole) in
-    record { rows = h; within = rw e (omega arith); start = rw e (omega arith) }
+    record { rows = h; upto = omega arith; within = rw e (omega arith); start = rw e (omega arith); next = λ l. omega arith }
 
-module _ {W S : ℕ} {ss hs : List ℕ} {from c : ℕ} (h : ReachedTo W S ss hs from c) {p : Part}
-    (is : IsPart (c * chunkSize W S) (c * chunkSize W S + (chunkSize W S - 1)) ss p) where
+-- the chunks before chunk d in which no range starts
+module _ {W S : ℕ} {ss hs : List ℕ} {from c : ℕ} (h : ReachedTo W S ss hs from c) where
   abbrev t : List Range
   t = ranges ss hs
 
-  abbrev part : List ℕ → List ℕ
-  part row = take (p .end - p .first) (drop (p .first) row)
+  -- up to the chunk in which the next range starts, if there is one
+  abbrev pub Free : ℕ → Type 0
+  Free d = from + 1 < length ss → d * chunkSize W S ≤ getD ss (from + 1) 0
 
-  pub reached-turn : ReachedTo W S ss hs (p .end - 1) (c + 1)
+  -- the chunk in which the next range starts
+  module _ (split : Split W S) (l : from + 1 < length ss) (small : getD ss (from + 1) 0 < 2 ^ W) where
+    abbrev nextChunk : ℕ
+    nextChunk = getD ss (from + 1) 0 / chunkSize W S
+
+    pub next-later : c ≤ nextChunk
+    next-later = le-div-iff-mul-le (pow-pos (W - S)) .1 (h .next l)
+
+    pub next-there : nextChunk < 2 ^ S
+    next-there = chunkThere W S (getD ss (from + 1) 0) split small
+
+    pub next-free : Free nextChunk
+    next-free m = omega (arith, div-add-mod' (getD ss (from + 1) 0) (chunkSize W S))
+
+    pub next-start : getD ss from 0 ≤ nextChunk * chunkSize W S
+    next-start = omega (arith, h .start, mul-le-mul-right (chunkSize W S) next-later)
+
+    -- its ranges end behind the next one
+    pub next-ends : {p : Part} → IsPart W S nextChunk ss p → from ≤ p .first → from + 1 < p .end
+    next-ends {p} is le =
+        let x = getD ss (from + 1) 0 in
+        byTest (eqb (p .end) (from + 1))
+        (λ e. let same : p .end - 1 + 1 ≡ from + 1 = omega (orders, is .some) in
+        let above = (rw same at (is .last .next)) l in
+        absurd (omega (arith, div-add-mod' x (chunkSize W S), mod-lt x (pow-pos (W - S)))))
+        (λ e. omega (orders, is .some))
+
+  freeAt : (k : ℕ) → Free (c + suc k) → Free (c + k + 1)
+  freeAt k f l = let e : c + suc k ≡ c + k + 1 = omega arith in rw e at (f l)
+
+  less : (k : ℕ) → Free (c + suc k) → Free (c + k)
+  less k f l = omega (arith, freeAt k f l, pow-pos (W - S))
+
+  below : (k : ℕ) → getD ss from 0 ≤ (c + k) * chunkSize W S
+  below k = omega (arith, h .start)
+
+  skipWords : (k : ℕ) → Free (c + k) → allWords W S t (c + k) ≡ allWords W S t c
+  skipWords zero f = rw add-zero
+  skipWords (suc k) f =
+      let e : c + suc k ≡ suc (c + k) = omega arith in
+      rw (e, alone-words (h .rows) from (c + k) (h .within) (below k) (freeAt k f), append-nil) (skipWords k (less k f))
+
+  skipMain : (k : ℕ) → Free (c + k) → mainWords W S t (c + k) ≡ mainWords W S t c ++ replicate k (getD hs from 0)
+  skipMain zero f = rw add-zero (sym (append-nil (mainWords W S t c)))
+  skipMain (suc k) f =
+      let e : c + suc k ≡ suc (c + k) = omega arith in
+      rw (e, alone-main (h .rows) from (c + k) (h .within) (below k) (freeAt k f) (length (allWords W S t (c + k))), skipMain k (less k f))
+      (append-assoc (mainWords W S t c) (replicate k (getD hs from 0)) (getD hs from 0 ∷ [])
+      ∙ ap (λ l. mainWords W S t c ++ l) (replicate-append-replicate k 1 (getD hs from 0) ∙ ap (λ n. replicate n (getD hs from 0)) (add-one k)))
+
+  module _ {d : ℕ} (le : c ≤ d) (f : Free d) where
+    many : c + (d - c) ≡ d
+    many = omega arith
+
+    pub skip-words : allWords W S t d ≡ allWords W S t c
+    skip-words = rw many at (skipWords (d - c) (rw many f))
+
+    pub skip-main : mainWords W S t d ≡ mainWords W S t c ++ replicate (d - c) (getD hs from 0)
+    skip-main = rw many at (skipMain (d - c) (rw many f))
+
+    pub skip-reached : d ≤ 2 ^ S → ReachedTo W S ss hs from d
+    skip-reached l = record { rows = h .rows; upto = l; within = h .within; start = rw many at (below (d - c)); next = f }
+
+-- chunk c and its ranges
+module _ {W S : ℕ} {ss hs : List ℕ} {from c : ℕ} (h : ReachedTo W S ss hs from c) (l : c < 2 ^ S) {p : Part} (is : IsPart W S c ss p) where
+  abbrev es : List Range
+  es = entriesFrom (c * chunkSize W S) (part is ss) (part is hs)
+
+  nextWords : allWords W S (ranges ss hs) (c + 1) ≡ allWords W S (ranges ss hs) c ++ words es
+  nextWords = rw (add-one, ← chunk-part is (h .rows))
+
+  nextMain : {used : ℕ} → used ≡ length (allWords W S (ranges ss hs) c) →
+      mainWords W S (ranges ss hs) (c + 1) ≡ mainWords W S (ranges ss hs) c ++ (mainWord es used ∷ [])
+  nextMain e = rw (add-one, chunk-part is (h .rows), e)
+
+  reached-turn : ReachedTo W S ss hs (p .end - 1) (c + 1)
   reached-turn = record {
     rows = h .rows;
+    upto = omega arith;
     within = is .last .within;
     start = omega (arith, is .last .start, pow-pos (W - S));
+    next = λ m. omega (arith, is .last .next m, pow-pos (W - S));
   }
-
-  -- the part lies in both rows
-  pub part-lies : (p .first < p .end) × (p .end ≤ length ss) × (p .end ≤ length hs)
-  part-lies =
-      let e : p .end ≤ length ss = omega (arith, is .some, is .last .within) in
-      (is .some, e, omega (arith, h .rows .equal))
-
-  partSize : (row : List ℕ) → length row ≡ length ss → length (part row) ≡ p .end - p .first
-  partSize row e = length-take-le (p .end - p .first) (drop (p .first) row) (simp length-drop (omega (arith, part-lies)))
-
-  pub part-size : length (part ss) ≡ p .end - p .first
-  part-size = partSize ss refl
-
-  pub part-equal : length (part ss) ≡ length (part hs)
-  part-equal = part-size ∙ sym (partSize hs (sym (h .rows .equal)))
-
-  pub part-some : 0 < length (part ss)
-  part-some = omega (arith, part-size, is .some)
-
-  pub part-few : length (part ss) < 16384
-  part-few = omega (arith, part-size, part-lies, h .rows .few)
-
-  -- it makes the chunk's entries
-  entriesAre : chunk W S t c ≡ entriesFrom (c * chunkSize W S) (part ss) (part hs)
-  entriesAre = chunk-part W S c ss hs (h .rows .equal) (fine-rises t (h .rows .rules) .rise) is
-
-  nextWords : allWords W S t (c + 1) ≡ allWords W S t c ++ words (entriesFrom (c * chunkSize W S) (part ss) (part hs))
-  nextWords = rw (add-one, ← entriesAre)
 
 -- so many words in the chunks before chunk c
 pub record CountedTo (W S : ℕ) (ss hs : List ℕ) (from sum c : ℕ) : Type 0 where
   pub reached : ReachedTo W S ss hs from c
   pub count : sum ≡ length (allWords W S (ranges ss hs) c)
 
-module _ {W S : ℕ} {ss hs : List ℕ} {from sum c : ℕ} (h : CountedTo W S ss hs from sum c) {p : Part}
-    (is : IsPart (c * chunkSize W S) (c * chunkSize W S + (chunkSize W S - 1)) ss p) {n : ℕ}
-    (more : n ≡ length (words (entriesFrom (c * chunkSize W S) (part (h .reached) is ss) (part (h .reached) is hs)))) where
-  next : sum + n ≡ length (allWords W S (ranges ss hs) (c + 1))
-  next = rw (nextWords (h .reached) is, length-append, h .count, more)
+module _ {W S : ℕ} {ss hs : List ℕ} {from sum c : ℕ} (h : CountedTo W S ss hs from sum c) where
+  -- on to chunk d
+  pub count-skip : {d : ℕ} → c ≤ d → d ≤ 2 ^ S → Free (h .reached) d → CountedTo W S ss hs from sum d
+  count-skip le up f = record { reached = skip-reached (h .reached) le f up; count = rw (skip-words (h .reached) le f) (h .count) }
 
-  pub count-turn : CountedTo W S ss hs (p .end - 1) (sum + n) (c + 1)
-  count-turn = record { reached = reached-turn (h .reached) is; count = next }
+  module _ (l : c < 2 ^ S) {p : Part} (is : IsPart W S c ss p) {n : ℕ} (more : n ≡ length (words (es (h .reached) l is))) where
+    next : sum + n ≡ length (allWords W S (ranges ss hs) (c + 1))
+    next = rw (nextWords (h .reached) l is, length-append, h .count, more)
 
-  pub count-low : sum + n < 65536
-  count-low = omega (arith, next, h .reached .rows .low (c + 1))
+    pub count-turn : CountedTo W S ss hs (p .end - 1) (sum + n) (c + 1)
+    count-turn = record { reached = reached-turn (h .reached) l is; count = next }
 
--- all of them, behind the last chunk
-pub count-end : {W S : ℕ} {ss hs : List ℕ} {from sum c : ℕ} → CountedTo W S ss hs from sum c → c ≡ 2 ^ S → sum ≡ length (tableWords W S (ranges ss hs))
-unfolding tableWords
-count-end h e = rw e at (h .count)
+    pub count-low : sum + n < 65536
+    count-low = omega (arith, next, h .reached .rows .low (c + 1))
 
--- a row written in two goes
-sets-append : (l : List ℕ) (i : ℕ) (xs ys : List ℕ) → sets l i (xs ++ ys) ≡ sets (sets l i xs) (i + length xs) ys
-sets-append l i [] ys = rw (add-zero i)
-sets-append l i (x ∷ xs) ys =
-    let e : i + suc (length xs) ≡ suc i + length xs = omega arith in
-    rw e (sets-append (set l i x) (suc i) xs ys)
-
-sets-more : (row xs ys : List ℕ) {k : ℕ} → k ≡ length xs → sets (sets row 0 xs) k ys ≡ sets row 0 (xs ++ ys)
-sets-more row xs ys e = rw e (sym (rw zero-add at (sets-append row 0 xs ys)))
-
-sets-front : (xs row : List ℕ) → length xs ≤ length row → sets row 0 xs ≡ overwritten xs row
-sets-front xs row l = rw zero-add at (sets-eq xs row 0 (omega arith))
+  -- behind the last range no chunk has words
+  pub count-end : length ss ≤ from + 1 → sum ≡ length (tableWords W S (ranges ss hs))
+  unfolding tableWords
+  count-end l = count-skip (h .reached .upto) (omega arith) (λ m. absurd (omega arith)) .count
 
 -- the chunks before chunk c are written
 pub record WrittenTo (W S : ℕ) (ss hs ms₀ ws₀ ms ws : List ℕ) (from used c : ℕ) : Type 0 where
   pub reached : ReachedTo W S ss hs from c
-  pub upto : c ≤ 2 ^ S
   pub size : length ms₀ ≡ 2 ^ S
   pub room : length (tableWords W S (ranges ss hs)) ≤ length ws₀
   pub count : used ≡ length (allWords W S (ranges ss hs) c)
@@ -122,15 +168,7 @@ pub record WrittenTo (W S : ℕ) (ss hs ms₀ ws₀ ms ws : List ℕ) (from used
 
 pub written-start : {W S : ℕ} {ss hs ms ws : List ℕ} → Splittable W S ss hs → length ms ≡ 2 ^ S →
     length (tableWords W S (ranges ss hs)) ≤ length ws → WrittenTo W S ss hs ms ws ms ws 0 0 0
-written-start h size room = record {
-  reached = reached-start h;
-  upto = omega arith;
-  size = size;
-  room = room;
-  count = refl;
-  main = refl;
-  words = refl;
-}
+written-start h size room = record { reached = reached-start h; size = size; room = room; count = refl; main = refl; words = refl }
 
 module _ {W S : ℕ} {ss hs ms₀ ws₀ ms ws : List ℕ} {from used c : ℕ} (h : WrittenTo W S ss hs ms₀ ws₀ ms ws from used c) where
   -- neither row changes its length
@@ -140,47 +178,66 @@ module _ {W S : ℕ} {ss hs ms₀ ws₀ ms ws : List ℕ} {from used c : ℕ} (h
   pub words-length : length ws ≡ length ws₀
   words-length = rw (h .words, length-sets)
 
-  module _ (l : c < 2 ^ S) (split : Split W S) {p : Part}
-      (is : IsPart (c * chunkSize W S) (c * chunkSize W S + (chunkSize W S - 1)) ss p) where
-    abbrev es : List Range
-    es = entriesFrom (c * chunkSize W S) (part (h .reached) is ss) (part (h .reached) is hs)
+  -- the chunks up to chunk d have the hop of range `from`
+  pub written-skip : {d : ℕ} → c ≤ d → d ≤ 2 ^ S → Free (h .reached) d →
+      {part : List ℕ} → part ≡ replicate (length (midOf c (d - c) ms)) (getD hs from 0) →
+      WrittenTo W S ss hs ms₀ ws₀ (putMid c (d - c) ms part) ws from used d
+  written-skip {d} le up f {part} is =
+      let hops = replicate (d - c) (getD hs from 0) in
+      let put : putMid c (d - c) ms part ≡ sets ms c hops =
+      rw (is, mid-len c d ms (omega (arith, main-length))) (put-sets ms hops c (d - c) (length-replicate (d - c) (getD hs from 0)) (omega (arith, main-length))) in
+      let more : sets ms c hops ≡ sets ms₀ 0 (mainWords W S (ranges ss hs) d) =
+      rw (h .main, skip-main (h .reached) le f)
+      (sets-more ms₀ (mainWords W S (ranges ss hs) c) hops (sym (mainLength W S (ranges ss hs) c))) in
+      record {
+        reached = skip-reached (h .reached) le f up;
+        size = h .size;
+        room = h .room;
+        count = rw (skip-words (h .reached) le f) (h .count);
+        main = put ∙ more;
+        words = rw (skip-words (h .reached) le f) (h .words);
+      }
 
-    pub written-room : HasRoom (c * chunkSize W S) (part (h .reached) is ss) (part (h .reached) is hs) ws used
+  -- behind the last range all have
+  pub written-rest : length ss ≤ from + 1 → {part : List ℕ} → part ≡ replicate (length (midOf c (length ms - c) ms)) (getD hs from 0) →
+      WrittenTo W S ss hs ms₀ ws₀ (putMid c (length ms - c) ms part) ws from used (2 ^ S)
+  written-rest l is =
+      rw main-length (written-skip (h .reached .upto) (omega arith) (λ m. absurd (omega arith)) (rw main-length at is))
+
+  module _ (l : c < 2 ^ S) (split : Split W S) {p : Part} (is : IsPart W S c ss p) where
+    pub written-room : HasRoom (c * chunkSize W S) (part is ss) (part is hs) ws used
     unfolding tableWords
     written-room =
         let s = stands W S (ranges ss hs) (2 ^ S) c l in
         let whole = ap length (s .1) ∙ length-append (allWords W S (ranges ss hs) c) (words (chunk W S (ranges ss hs) c) ++ s .0) in
         let behind = length-append (words (chunk W S (ranges ss hs) c)) (s .0) in
         record {
-          equal = part-equal (h .reached) is;
-          fits = rw (← entriesAre (h .reached) is) (fit W S split (ranges ss hs) (h .reached .rows .rules) c);
-          some = part-some (h .reached) is;
-          few = part-few (h .reached) is;
+          equal = part-equal is (h .reached .rows);
+          fits = rw (← chunk-part is (h .reached .rows)) (fit W S split (ranges ss hs) (h .reached .rows .rules) c);
+          some = part-some is (h .reached .rows);
+          few = part-few is (h .reached .rows);
           low = rw (h .count) (h .reached .rows .low c);
-          room = rw (← entriesAre (h .reached) is) (omega (arith, h .room, h .count, words-length));
+          room = rw (← chunk-part is (h .reached .rows)) (omega (arith, h .room, h .count, words-length));
         }
 
-    nextMain : mainWords W S (ranges ss hs) (c + 1) ≡ mainWords W S (ranges ss hs) c ++ (mainWord es used ∷ [])
-    nextMain = rw (add-one, entriesAre (h .reached) is, h .count)
+    pub written-turn : {s : Stored} {ws′ : List ℕ} → IsStored (es (h .reached) l is) used ws s ws′ →
+        WrittenTo W S ss hs ms₀ ws₀ (set ms c (s .word)) ws′ (p .end - 1) (s .used) (c + 1)
+    written-turn put = record {
+      reached = reached-turn (h .reached) l is;
+      size = h .size;
+      room = h .room;
+      count = put .next ∙ rw (nextWords (h .reached) l is, length-append, ← h .count);
+      main = rw (h .main, put .main, nextMain (h .reached) l is (h .count))
+          (sets-more ms₀ (mainWords W S (ranges ss hs) c) _ (sym (mainLength W S (ranges ss hs) c)));
+      words = put .row
+          ∙ rw (h .words, nextWords (h .reached) l is) (sets-more ws₀ (allWords W S (ranges ss hs) c) (words (es (h .reached) l is)) (h .count));
+    }
 
-    module _ {s : Stored} {ws′ : List ℕ} (put : IsStored es used ws s ws′) where
-      pub written-turn : WrittenTo W S ss hs ms₀ ws₀ (set ms c (s .word)) ws′ (p .end - 1) (s .used) (c + 1)
-      written-turn = record {
-        reached = reached-turn (h .reached) is;
-        upto = omega arith;
-        size = h .size;
-        room = h .room;
-        count = put .next ∙ rw (nextWords (h .reached) is, length-append, ← h .count);
-        main = rw (h .main, put .main, nextMain) (sets-more ms₀ (mainWords W S (ranges ss hs) c) _ (sym (mainLength W S (ranges ss hs) c)));
-        words = put .row
-            ∙ rw (h .words, nextWords (h .reached) is) (sets-more ws₀ (allWords W S (ranges ss hs) c) (words es) (h .count));
-      }
-
-  pub written-end : 2 ^ S ≤ c → (ms ≡ overwritten (tableMain W S (ranges ss hs)) ms₀) × (ws ≡ overwritten (tableWords W S (ranges ss hs)) ws₀)
-  unfolding tableMain tableWords
-  written-end l =
-      let e : c ≡ 2 ^ S = omega (arith, h .upto) in (
-        (rw e at (h .main))
-            ∙ sets-front (mainWords W S (ranges ss hs) (2 ^ S)) ms₀ (rw (mainLength W S (ranges ss hs) (2 ^ S)) (omega (arith, h .size))),
-        (rw e at (h .words)) ∙ sets-front (allWords W S (ranges ss hs) (2 ^ S)) ws₀ (h .room),
-      )
+-- all chunks are written
+pub written-end : {W S : ℕ} {ss hs ms₀ ws₀ ms ws : List ℕ} {from used : ℕ} → WrittenTo W S ss hs ms₀ ws₀ ms ws from used (2 ^ S) →
+    (ms ≡ overwritten (tableMain W S (ranges ss hs)) ms₀) × (ws ≡ overwritten (tableWords W S (ranges ss hs)) ws₀)
+unfolding tableMain tableWords
+written-end {W} {S} {ss} {hs} {ms₀} {ws₀} h = (
+  h .main ∙ sets-front (mainWords W S (ranges ss hs) (2 ^ S)) ms₀ (rw (mainLength W S (ranges ss hs) (2 ^ S)) (omega (arith, h .size))),
+  h .words ∙ sets-front (allWords W S (ranges ss hs) (2 ^ S)) ws₀ (h .room),
+)

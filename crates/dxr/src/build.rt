@@ -1,11 +1,12 @@
 // The build: the DXR table of a list, written to a lent main table and to lent range words.
 //
 // The merged ranges of the list are built in rows of this call's own. A first pass over the chunks
-// counts the range words and the room is tested; only then does a second pass write. Both go through
-// the ranges once: a chunk's ranges begin with the last that starts at or before its first address.
+// counts the range words and the room is tested; only then does a second pass write. Both go from one
+// chunk in which a range starts to the next. A chunk's ranges begin with the last that starts at or
+// before its first address.
 ghost use mathlib.Core.Path.{_≡_};
-ghost use Prim.Native.Nat.{_+_, _*_, _≤_, _<_};
-ghost use lib.ListN.{length, getD};
+ghost use Prim.Native.Nat.{_*_, _≤_, _<_};
+ghost use lib.ListN.{length, getD, replicate};
 ghost use Rattle.route.specs.Shown.{counted};
 ghost use Rattle.ranges.specs.Ranges.{ranges};
 ghost use Rattle.ranges.specs.Builds.{overwritten};
@@ -37,11 +38,12 @@ fn last_at(starts: &[u32], from: usize, x: u32) -> usize
     i
 }
 
-// The ranges of the chunk that starts at address base; range `from` starts at or before it.
-fn part_at(starts: &[u32], from: usize, base: u32) -> Part
-    requires { ⌜ (from < length (now starts)) × (getD (now starts) from 0 ≤ base) × (base + 65535 < 4294967296) ⌝ }
-    ensures { λ r. ⌜ IsPart base (base + 65535) (now (starts .entry)) r ⌝ }
+// The ranges of a chunk; range `from` starts at or before its first address.
+fn part_at(starts: &[u32], from: usize, chunk: u32) -> Part
+    requires { ⌜ (from < length (now starts)) × (getD (now starts) from 0 ≤ chunk * 65536) × (chunk < 65536) ⌝ }
+    ensures { λ r. ⌜ IsPart 32 16 chunk (now (starts .entry)) r × (from ≤ r .first) ⌝ }
 {
+    let base = chunk * 65536;
     let first = last_at(starts, from, base);
     let last = last_at(starts, first, base + 65535);
     Part {
@@ -57,20 +59,30 @@ fn count_words(starts: &[u32], hops: &[u32]) -> usize
 {
     let mut from = 0;
     let mut count = 0;
-    let mut c = 0;
-    while c < MAIN_WORDS {
-        let base = (c * 65536) as u32;
-        let part = part_at(starts, from, base);
+    while from + 1 < starts.len() {
+        let chunk = starts[from + 1] / 65536;
+        let part = part_at(starts, from, chunk);
         let first = part.first;
         let end = part.end;
-        count += chunk::count(&starts[first..end], &hops[first..end], base);
+        count += chunk::count(&starts[first..end], &hops[first..end], chunk * 65536);
         from = end - 1;
-        c += 1;
     }
     count
 }
 
-// Writes the table of these ranges.
+// One number in every cell.
+fn fill(part: &mut [u32], number: u32)
+    ensures { λ r. ⌜ now (part .exit) ≡ replicate (length (now (part .entry))) number ⌝ }
+{
+    let mut i = 0;
+    while i < part.len() {
+        part[i] = number;
+        i += 1;
+    }
+}
+
+// Writes the table of these ranges. Up to the next chunk in which a range starts, and behind the last,
+// a chunk has the hop of the range that it lies in.
 fn write_table(starts: &[u32], hops: &[u32], main: &mut [u32], words: &mut [u32])
     requires { ⌜ Splittable 32 16 (now starts) (now hops) ⌝ }
     requires { ⌜ (length (now main) ≡ 65536) × (length (tableWords 32 16 (ranges (now starts) (now hops))) ≤ length (now words)) ⌝ }
@@ -80,17 +92,21 @@ fn write_table(starts: &[u32], hops: &[u32], main: &mut [u32], words: &mut [u32]
     let mut from = 0;
     let mut used = 0;
     let mut c = 0;
-    while c < MAIN_WORDS {
-        let base = (c * 65536) as u32;
-        let part = part_at(starts, from, base);
+    while from + 1 < starts.len() {
+        let chunk = starts[from + 1] / 65536;
+        let next = chunk as usize;
+        fill(&mut main[c..next], hops[from]);
+        let part = part_at(starts, from, chunk);
         let first = part.first;
         let end = part.end;
+        let base = chunk * 65536;
         let stored = chunk::store(&starts[first..end], &hops[first..end], base, words, used);
-        main[c] = stored.word;
+        main[next] = stored.word;
         used = stored.used;
         from = end - 1;
-        c += 1;
+        c = next + 1;
     }
+    fill(&mut main[c..], hops[from]);
 }
 
 // The table of ranges of which one can be made: how many range words it has, or refusal 9.

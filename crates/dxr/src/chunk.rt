@@ -9,7 +9,7 @@ ghost use lib.ListN.{length, getD};
 ghost use Rattle.ranges.specs.Ranges.{range};
 ghost use Rattle.ranges.specs.Shown.{rangeOf};
 ghost use Rattle.ranges.specs.Loops.{rangeAt};
-ghost use Rattle.dxr.specs.Dxr.{fitsShort, allShort, longEntry, shortEntry, encoded, words, pointer, partLength};
+ghost use Rattle.dxr.specs.Dxr.{fitsShort, allShort, shortEntry, encoded, words, pointer, partLength};
 ghost use Rattle.dxr.specs.Loops.{entryFrom, entriesFrom, Encodable, HasRoom};
 ghost use Rattle.dxr.specs.Shown.{IsStored};
 use crate::lookup::part_length;

@@ -4,11 +4,10 @@
 ghost use mathlib.Core.Path.{_≡_};
 ghost use mathlib.Core.Bool.{cond};
 ghost use Prim.Native.Nat.{_+_, _/_, _%_, _≤_, _<_};
-ghost use lib.Dec.{eqb};
 ghost use lib.ListN.{length};
 ghost use Rattle.route.specs.Shown.{shown};
 ghost use Rattle.ranges.specs.Shown.{rangeOf};
-ghost use Rattle.dxr.specs.Dxr.{longRange, shortRange, decoded, partLength, dxrLookup};
+ghost use Rattle.dxr.specs.Dxr.{decoded, partLength, dxrLookup};
 ghost use Rattle.dxr.specs.Loops.{halfAt, entryAt, entriesAnswer, behindFirst, chunkAnswer};
 use crate::MAIN_WORDS;
 use ranges::lookup::hop_from;
@@ -92,12 +91,12 @@ pub(crate) fn part_length(short: bool, count: usize) -> usize
 fn look_in(word: u32, words: &[u32], key: u32, chunk: usize) -> Found
     ensures { λ r. ⌜ shown r ≡ chunkAnswer 65536 chunk word (now (words .entry)) key ⌝ }
 {
+    if word <= MAX_HOP {
+        return Found::of_number(word);
+    }
     let kind = word / 1073741824;
     if kind == 0 {
-        if MAX_HOP < word {
-            return Found::Refused(Refusal::Image(chunk));
-        }
-        return Found::of_number(word);
+        return Found::Refused(Refusal::Image(chunk));
     }
     if kind == 3 {
         return Found::Refused(Refusal::Image(chunk));

@@ -3,12 +3,12 @@ use Prim.Native.Nat.{ℕ, _+_, _-_, _%_, _^_, _≤_, _<_}
 use mathlib.Core.Path.{_≡_, refl, sym, _∙_, ap}
 use mathlib.Core.Bool.{Bool, true, false}
 use lib.Dec.{ltb, leb}
-use native.Mathlib.Nat.{mod-eq-of-lt, mod-add-mod}
+use native.Mathlib.Nat.{mod-eq-of-lt, mod-self, mod-add-mod}
 use native.Mathlib.Omega.{arith}
 use Rattle.route.specs.Rule.{Route, span, matches}
 use Rattle.route.specs.RowsOfSet.{Valid}
 use Rattle.route.proofs.Tests.{orders, byTest, is-false, clash}
-use Rattle.route.proofs.Spans.{matches-span}
+use Rattle.route.proofs.Spans.{matches-span, end-within}
 use Rattle.ranges.specs.Ranges.{pastEnd}
 
 -- one past the last of s addresses from a on, by two sums that wrap
@@ -16,6 +16,15 @@ pub past-last : (W a n s : ℕ) → s ≡ span W n → 0 < s → ((a + (s - 1)) 
 past-last W a n s e pos =
     let whole : a + (s - 1) + 1 ≡ a + span W n = omega arith in
     mod-add-mod (a + (s - 1)) (2 ^ W) 1 ∙ ap (λ x. x % 2 ^ W) whole
+
+-- an end that is not 0 is one past the last address
+pub endPast : (W : ℕ) (r : Route) → Valid W r → r .address < 2 ^ W → 0 < pastEnd W r → pastEnd W r ≡ r .address + span W (r .length)
+endPast W r v below pos =
+    let end = r .address + span W (r .length) in
+    byTest (ltb end (2 ^ W))
+    (λ t. mod-eq-of-lt (omega orders))
+    (λ t. let e : end ≡ 2 ^ W = omega (orders, end-within W (r .address) (r .length) (v .short) (v .aligned) below) in
+    let z : pastEnd W r ≡ 0 = rw e (mod-self (2 ^ W)) in absurd (omega arith))
 
 -- x does not separate p from a later q
 abbrev pub OneSide : ℕ → ℕ → ℕ → Type 0

@@ -6,7 +6,7 @@ use mathlib.Core.Bool.{true, false, cond, not}
 use mathlib.Core.List.{List, [], _∷_, _++_, List·Memᴰ·head, List·Memᴰ·tail, List·Memᴰ·not-nil}
 use lib.Dec.{leb, ltb, eqb}
 use lib.Pow.{pow-pos}
-use native.Mathlib.Nat.{mod-eq-of-lt, mod-self}
+use native.Mathlib.Nat.{mod-eq-of-lt}
 use native.Mathlib.Omega.{arith}
 use borrow.Author.Tests.{eqb-true, eqb-false, ne-eqb, leb-true, not-true}
 use Rattle.route.specs.Rule.{Route, span, matches, answer}
@@ -14,7 +14,8 @@ use Rattle.route.specs.RightHop.{_∈_}
 use Rattle.route.specs.RowsOfSet.{Valid}
 use Rattle.route.proofs.Tests.{orders, byTest, either, is-false, and-parts}
 use Rattle.route.proofs.Members.{eachOf}
-use Rattle.route.proofs.Spans.{span-pos, matches-span, end-within}
+use Rattle.route.proofs.Spans.{span-pos, matches-span}
+use Rattle.ranges.proofs.Spans.{endPast}
 use Rattle.ranges.specs.Ranges.{Range, range, pastEnd, rangesOf}
 use Rattle.ranges.specs.Sweeps.{Sweep, sweep, lastOf, joined, openHop, extended, advanced, endsBy, closed, closedBy, opening, swept, sweptRanges}
 use Rattle.ranges.proofs.Boundaries.{Placed}
@@ -47,18 +48,11 @@ module _ (W : ℕ) (r : Route) (v : Valid W r) where
   missed : (q : ℕ) → (r .address ≤ q → q < end → ⊥) → matches W (r .address) (r .length) q ≡ false
   missed q n = is-false _ (λ e. let h = matches-span W (r .address) (r .length) q (v .aligned) .0 e in n (h .0) (h .1))
 
-  -- an end that is not 0 is one past the last address
-  endPast : r .address < 2 ^ W → 0 < pastEnd W r → pastEnd W r ≡ end
-  endPast below pos = byTest (ltb end (2 ^ W))
-      (λ t. mod-eq-of-lt (omega orders))
-      (λ t. let e : end ≡ 2 ^ W = omega (orders, end-within W (r .address) (r .length) (v .short) (v .aligned) below) in
-      let z : pastEnd W r ≡ 0 = rw e (mod-self (2 ^ W)) in absurd (omega arith))
-
   endsThere : (x : ℕ) → r .address < 2 ^ W → endsBy W x r ≡ true → (pastEnd W r ≡ end) × (pastEnd W r ≤ x)
   endsThere x below e =
       let h = and-parts (not (eqb (pastEnd W r) 0)) (leb (pastEnd W r) x) e in
       let n = eqb-false (pastEnd W r) 0 (not-true _ (h .0)) in
-      (endPast below (positive n), leb-true (pastEnd W r) x (h .1))
+      (endPast W r v below (positive n), leb-true (pastEnd W r) x (h .1))
     where
       positive : {n : ℕ} → (n ≡ 0 → ⊥) → 0 < n
       positive {n} k = byTest (eqb n 0) (λ t. absurd (k (eqb-true n 0 t))) (λ t. omega orders)

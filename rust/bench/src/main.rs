@@ -28,7 +28,10 @@ fn least(calls: u32, mut one: impl FnMut(), mut other: impl FnMut()) -> [f64; 2]
 
 /// A line of the proved code and of plain Rust.
 fn compare(name: &str, calls: u32, proved: impl FnMut(), plain: impl FnMut()) {
-    let [proved, plain] = least(calls, proved, plain);
+    line(name, least(calls, proved, plain));
+}
+
+fn line(name: &str, [proved, plain]: [f64; 2]) {
     println!("{name:<32} {proved:>12.1} {plain:>12.1} {:>8.2}", proved / plain);
 }
 
@@ -58,6 +61,10 @@ fn main() {
         range_lookup(entries, calls);
     }
     build_beside_check(4096, 2);
+    for (entries, calls) in [(16, 100), (256, 50), (4096, 2)] {
+        dxr_build(entries, calls);
+    }
+    dxr_lookups();
 }
 
 fn list(entries: u32, calls: u32) {
@@ -221,19 +228,9 @@ fn apply(slots: u32, calls: u32) {
     assert_eq!(proved, plain);
 }
 
-/// Routes as a router has them: most of length 24, some shorter, to 8, and some longer, inside eight blocks of length 8.
+/// Routes as a router has them, with next hops up to the largest.
 fn routes(entries: usize) -> Rows {
-    let prefix = |random: &mut Random| {
-        let length = match random.below(16) {
-            0..=9 => 24,
-            10..=13 => 8 + random.below(16),
-            _ => 25 + random.below(8),
-        };
-        (length as u32, random.number() as u32 & 0x07ff_ffff)
-    };
-    Rows::distinct(&mut Random::new(1), entries, prefix, |random| {
-        1 + random.below(65_535) as u32
-    })
+    Rows::routed(&mut Random::new(1), entries, 65_535)
 }
 
 /// Two rows with room for the ranges of any list of so many entries.
@@ -313,4 +310,100 @@ fn build_beside_check(entries: usize, calls: u32) {
         "range build, {entries} entries, {build:.1} ns: {:.3} times the repeat test, {check:.1} ns",
         build / check
     );
+}
+
+/// A main table and a row of range words, with room for any list.
+type Dxr = (Vec<u32>, Vec<u32>);
+
+fn dxr_room() -> Dxr {
+    (vec![0; hawkmortar::MAIN_WORDS], vec![0; hawkmortar::MAX_RANGE_WORDS])
+}
+
+fn proved_dxr_build(list: &Rows, rows: &mut Dxr) -> Result<usize, hawkmortar::Refusal> {
+    hawkmortar::dxr::build(&list.addresses, &list.lengths, &list.hops, &mut rows.0, &mut rows.1)
+}
+
+fn plain_dxr_build(list: &Rows, rows: &mut Dxr) -> Result<usize, plain::Fault> {
+    plain::dxr::build(&list.addresses, &list.lengths, &list.hops, &mut rows.0, &mut rows.1)
+}
+
+fn dxr_build(entries: usize, calls: u32) {
+    let list = routes(entries);
+    let (mut proved, mut plain) = (dxr_room(), dxr_room());
+    assert_eq!(
+        proved_dxr_build(&list, &mut proved).ok(),
+        plain_dxr_build(&list, &mut plain).ok()
+    );
+    assert!(proved == plain);
+    compare(
+        &format!("dxr build, {entries} entries"),
+        calls,
+        || {
+            let _ = black_box(proved_dxr_build(black_box(&list), black_box(&mut proved)));
+        },
+        || {
+            let _ = black_box(plain_dxr_build(black_box(&list), black_box(&mut plain)));
+        },
+    );
+}
+
+/// The addresses that are looked up in turn in one call of what is timed.
+const KEYS: usize = 4096;
+
+/// Lookups in the tables of 4,096 routes: at any address; in chunks with long entries, and with short ones, which a list with hops
+/// up to 255 has; and in eight chunks that have all the routes, where most of the time is the test of the chunk.
+fn dxr_lookups() {
+    let mut random = Random::new(2);
+    let keys: Vec<u32> = (0..KEYS).map(|_| random.number() as u32).collect();
+    let table = dxr_table(&routes(4096));
+    dxr_lookup("any address", &table, &keys, 20);
+    dxr_lookup("long chunks", &table, &keys_in(&table, 1, &mut random), 20);
+    let table = dxr_table(&Rows::routed(&mut Random::new(1), 4096, 255));
+    dxr_lookup("short chunks", &table, &keys_in(&table, 2, &mut random), 20);
+    let table = dxr_table(&Rows::in_blocks(&mut Random::new(1), 4096, 8, 32, 65_535));
+    dxr_lookup("dense chunks", &table, &keys_in(&table, 1, &mut random), 1);
+}
+
+fn dxr_table(list: &Rows) -> Dxr {
+    let mut rows = dxr_room();
+    let words = proved_dxr_build(list, &mut rows).expect("there is room");
+    rows.1.truncate(words);
+    rows
+}
+
+/// Addresses in the chunks whose main words are of a kind.
+fn keys_in(table: &Dxr, kind: u32, random: &mut Random) -> Vec<u32> {
+    let chunks: Vec<u32> = (0..)
+        .zip(&table.0)
+        .filter(|&(_, word)| word >> 30 == kind)
+        .map(|(chunk, _)| chunk)
+        .collect();
+    (0..KEYS)
+        .map(|_| random.pick(&chunks) << 16 | random.below(65_536) as u32)
+        .collect()
+}
+
+/// A line of lookups at all the keys, in nanoseconds of one lookup; below it the time of plain Rust that does not test the chunk.
+fn dxr_lookup(name: &str, table: &Dxr, keys: &[u32], calls: u32) {
+    let (main, words) = (&table.0[..], &table.1[..]);
+    let number = |hop: Option<hawkmortar::NextHop>| hop.map_or(0, |hop| hop.get().into());
+    let proved = |q| hawkmortar::dxr::lookup(main, words, q).map_or(u32::MAX, number);
+    let plain = |q| plain::dxr::lookup(main, words, q).unwrap_or(u32::MAX);
+    let untested = |q| plain::dxr::lookup_without_test(main, words, q).unwrap_or(u32::MAX);
+    for &q in keys {
+        assert_eq!((proved(q), untested(q)), (plain(q), plain(q)));
+    }
+    let beside = |other: &mut dyn FnMut()| {
+        let times = least(calls, || all(keys, proved), other);
+        times.map(|time| time / keys.len() as f64)
+    };
+    line(&format!("dxr lookup, {name}"), beside(&mut || all(keys, plain)));
+    let [_, untested] = beside(&mut || all(keys, untested));
+    println!("{:<32} {:>12} {untested:>12.1}", "  without the test of the chunk", "");
+}
+
+/// Looks every key up.
+fn all(keys: &[u32], hop: impl Fn(u32) -> u32) {
+    let sum = black_box(keys).iter().fold(0, |sum: u32, &q| sum.wrapping_add(hop(q)));
+    black_box(sum);
 }

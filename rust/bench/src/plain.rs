@@ -1,5 +1,6 @@
 //! The same checked work in plain Rust.
 
+pub mod dxr;
 pub mod ranges;
 pub mod slots;
 

@@ -2,7 +2,9 @@
  * The board's set P from C. First the list: each answer on a line, then the outcome of a list with a repeated prefix.
  * Then case f, sets in 8 slots: each plan's outcome, and the image. Then case g, a removal: the plan's outcome, the
  * answer for 10.20.4.10 after each number of its writes, and the image. Then case h, ranges: the outcome of a build
- * with a cell of room too few, that of a build with room for all, the ranges, and each answer on a line.
+ * with a cell of room too few, that of a build with room for all, the ranges, and each answer on a line. Then cases i
+ * and j, the DXR table with and without the /32: the outcome of the build, the main word of chunk 2580, its range
+ * words, which are all there are, and each answer on a line.
  */
 #include <inttypes.h>
 #include <stdio.h>
@@ -13,12 +15,15 @@
 #define SLOTS 8
 #define KEYS 4
 #define RANGES 9
+#define CHUNK 2580
 
 static uint32_t slot_addresses[SLOTS];
 static uint32_t slot_tags[SLOTS];
 static uint32_t plan[3 * HAWKMORTAR_MAX_REMOVE_WRITES];
 static uint32_t starts[RANGES];
 static uint32_t range_hops[HAWKMORTAR_MAX_RANGES];
+static uint32_t main_words[HAWKMORTAR_MAIN_WORDS];
+static uint32_t range_words[HAWKMORTAR_MAX_RANGE_WORDS];
 
 static const uint32_t lengths[ENTRIES] = {8, 16, 24, 32, 0};
 static const uint32_t hops[ENTRIES] = {1, 2, 3, 2, 7};
@@ -61,6 +66,24 @@ static int show_ranges(const uint32_t *addresses, const uint32_t *keys)
     return 0;
 }
 
+static int show_dxr(const uint32_t *addresses, const uint32_t *ns, const uint32_t *hs, size_t entries,
+                    const uint32_t *keys)
+{
+    struct hawkmortar_outcome built =
+        hawkmortar_dxr_build(addresses, entries, ns, entries, hs, entries, main_words, HAWKMORTAR_MAIN_WORDS,
+                             range_words, HAWKMORTAR_MAX_RANGE_WORDS);
+    show(built);
+    if (built.refusal != 0)
+        return 1;
+    size_t words = (size_t)built.value;
+    printf("%" PRIu32 "\n", main_words[CHUNK]);
+    for (size_t i = 0; i < words; i++)
+        printf("%" PRIu32 "\n", range_words[i]);
+    for (size_t i = 0; i < KEYS; i++)
+        show(hawkmortar_dxr_lookup(main_words, HAWKMORTAR_MAIN_WORDS, range_words, words, keys[i]));
+    return 0;
+}
+
 int main(void)
 {
     const uint32_t addresses[ENTRIES] = {ip(10, 0, 0, 0), ip(10, 20, 0, 0), ip(10, 20, 4, 0), ip(10, 20, 4, 9), 0};
@@ -94,5 +117,15 @@ int main(void)
         show(hawkmortar_slot_lookup(slot_addresses, SLOTS, slot_tags, SLOTS, ip(10, 20, 4, 10)));
     }
     show_image();
-    return show_ranges(addresses, keys);
+    if (show_ranges(addresses, keys) != 0)
+        return 1;
+
+    const uint32_t others[3][ENTRIES - 1] = {
+        {addresses[0], addresses[1], addresses[2], addresses[4]},
+        {lengths[0], lengths[1], lengths[2], lengths[4]},
+        {hops[0], hops[1], hops[2], hops[4]},
+    };
+    if (show_dxr(addresses, lengths, hops, ENTRIES, keys) != 0)
+        return 1;
+    return show_dxr(others[0], others[1], others[2], ENTRIES - 1, keys);
 }

@@ -1,7 +1,8 @@
 //! The board's set P: the list asked for the addresses of cases a to e, then case f, the sets in 8 slots, case g, the removal of
-//! the /24 write by write, and case h, the ranges: `cargo run --release --example board`.
+//! the /24 write by write, case h, the ranges, and cases i and j, the DXR table with and without the /32:
+//! `cargo run --release --example board`.
 
-use hawkmortar::{list, NextHop, Prefix, RangeTable, Refusal, Table};
+use hawkmortar::{list, DxrTable, NextHop, Prefix, RangeTable, Refusal, Table};
 use std::net::Ipv4Addr;
 
 /// Octets, length and hop.
@@ -17,7 +18,8 @@ fn main() -> Result<(), Refusal> {
     cases_a_to_e()?;
     let mut table = case_f()?;
     case_g(&mut table)?;
-    case_h()
+    case_h()?;
+    cases_i_and_j()
 }
 
 fn cases_a_to_e() -> Result<(), Refusal> {
@@ -75,6 +77,15 @@ fn case_h() -> Result<(), Refusal> {
     Ok(())
 }
 
+fn cases_i_and_j() -> Result<(), Refusal> {
+    let mut routes = routes()?;
+    show_chunk(&DxrTable::of(routes.iter().copied())?);
+    println!("without the /32:");
+    routes.remove(3);
+    show_chunk(&DxrTable::of(routes)?);
+    Ok(())
+}
+
 fn routes() -> Result<Vec<(Prefix, NextHop)>, Refusal> {
     let route = |(octets, length, hop)| {
         let hop = NextHop::new(hop).expect("the board's hops are not 0");
@@ -95,4 +106,15 @@ fn show_slots(table: &Table) {
     for entry in table.iter() {
         println!("slot {entry}");
     }
+}
+
+/// Chunk 10.20, the only one of the set's that has range words.
+fn show_chunk(table: &DxrTable) {
+    const CHUNK: usize = 10 << 8 | 20;
+    println!("chunk {CHUNK}, word {}", table.main()[CHUNK]);
+    for word in table.words() {
+        println!("range word {word}");
+    }
+    let q = Ipv4Addr::new(10, 20, 4, 9);
+    show(q, table.lookup(q));
 }

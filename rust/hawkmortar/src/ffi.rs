@@ -9,8 +9,10 @@ pub struct Outcome {
     value: u64,
 }
 
+// inlined, since a lookup in a chunk takes little longer than a call
 impl Outcome {
     /// The value, or the refusal.
+    #[inline]
     pub fn count(self) -> Result<usize, Refusal> {
         let value = usize::try_from(self.value).expect("places and counts fit the machine's word");
         match self.refusal {
@@ -20,6 +22,7 @@ impl Outcome {
     }
 
     /// The next hop, where 0 is none, or the refusal.
+    #[inline]
     pub fn hop(self) -> Result<Option<NextHop>, Refusal> {
         self.count()
             .map(|hop| NextHop::new(u16::try_from(hop).expect("a hop is at most 65,535")))
@@ -112,6 +115,27 @@ extern "C" {
         starts_len: usize,
         range_hops: *const u32,
         range_hops_len: usize,
+        q: u32,
+    ) -> Outcome;
+
+    pub fn hawkmortar_dxr_build(
+        addresses: *const u32,
+        addresses_len: usize,
+        lengths: *const u32,
+        lengths_len: usize,
+        hops: *const u32,
+        hops_len: usize,
+        main: *mut u32,
+        main_len: usize,
+        words: *mut u32,
+        words_len: usize,
+    ) -> Outcome;
+
+    pub fn hawkmortar_dxr_lookup(
+        main: *const u32,
+        main_len: usize,
+        words: *const u32,
+        words_len: usize,
         q: u32,
     ) -> Outcome;
 }

@@ -21,9 +21,12 @@
 //! ```
 //!
 //! A [`Table`] keeps routes in slots and plans each update as a row of single writes; [`slots`] has the same calls over lent
-//! rows. A [`RangeTable`] has the routes of a list merged into ranges of addresses; [`ranges`] has its calls over lent rows.
+//! rows. A [`RangeTable`] has the routes of a list merged into ranges of addresses; [`ranges`] has its calls over lent rows. A
+//! [`DxrTable`] has these ranges by chunks of addresses, so that a lookup looks at one chunk; [`dxr`] has its calls.
 #![warn(missing_docs)]
 
+pub mod dxr;
+pub mod dxr_table;
 mod ffi;
 pub mod list;
 mod prefix;
@@ -33,6 +36,7 @@ mod refusal;
 pub mod slots;
 pub mod table;
 
+pub use dxr_table::DxrTable;
 pub use prefix::Prefix;
 pub use range_table::{Range, RangeTable};
 pub use refusal::Refusal;
@@ -49,6 +53,12 @@ pub const MAX_SLOTS: usize = 4096;
 
 /// The most ranges of a table; the least is 1.
 pub const MAX_RANGES: usize = 8193;
+
+/// The words of a DXR table's main table, one for each chunk of 65,536 addresses.
+pub const MAIN_WORDS: usize = 65_536;
+
+/// The most range words of a DXR table that is built: enough room for any list.
+pub const MAX_RANGE_WORDS: usize = 12_288;
 
 /// The most writes of a plan that sets a prefix.
 pub const MAX_SET_WRITES: usize = 17;

@@ -42,6 +42,24 @@ const RANGES: &str = "\
 0b000000 7
 ";
 
+/// The range words, the main word of chunk 2580 and these words.
+const CHUNK: &str = "\
+0 5
+1074069504
+2
+67108867
+67698690
+67764227
+83886082
+";
+
+const CHUNK_WITHOUT_32: &str = "\
+0 2
+2147680256
+132099
+84017152
+";
+
 #[test]
 fn a_c_program_over_the_header_answers_the_board() {
     let here = Path::new(env!("CARGO_MANIFEST_DIR"));
@@ -71,8 +89,12 @@ fn a_c_program_over_the_header_answers_the_board() {
     let sets = "0 1\n0 1\n0 2\n0 3\n0 2\n";
     let removal = "0 2\n0 3\n0 2\n0 2\n";
     let builds = "9 0\n0 9\n";
+    let slots = format!("{sets}{AFTER_SETS}{removal}{AFTER_REMOVAL}");
+    let ranges = format!("{builds}{RANGES}{answers}");
+    let answers_without_32 = "0 3\n0 3\n0 2\n0 7\n";
+    let dxr = format!("{CHUNK}{answers}{CHUNK_WITHOUT_32}{answers_without_32}");
     assert_eq!(
         String::from_utf8_lossy(&ran.stdout),
-        format!("{answers}{twice}{sets}{AFTER_SETS}{removal}{AFTER_REMOVAL}{builds}{RANGES}{answers}")
+        format!("{answers}{twice}{slots}{ranges}{dxr}")
     );
 }

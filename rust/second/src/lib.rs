@@ -3,6 +3,7 @@
 //! It answers numbers: a value, or the refusal's number and place.
 
 pub mod book;
+pub mod dxr;
 pub mod list;
 pub mod random;
 pub mod ranges;

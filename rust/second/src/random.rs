@@ -84,6 +84,36 @@ impl Rows {
         Rows::distinct(random, entries, prefix, |random| 1 + random.below(hops) as u32)
     }
 
+    /// Routes as a router has them: most of length 24, some shorter, to 8, and some longer, inside eight blocks of length 8, with
+    /// next hops up to `hops`.
+    pub fn routed(random: &mut Random, entries: usize, hops: u64) -> Self {
+        let prefix = |random: &mut Random| {
+            let length = match random.below(16) {
+                0..=9 => 24,
+                10..=13 => 8 + random.below(16),
+                _ => 25 + random.below(8),
+            };
+            (length as u32, random.number() as u32 & 0x07ff_ffff)
+        };
+        Rows::distinct(random, entries, prefix, |random| 1 + random.below(hops) as u32)
+    }
+
+    /// A list of so many distinct valid prefixes inside so many blocks of length 16, side by side, with lengths from 16 up to
+    /// `longest`, and with some prefixes around the blocks. The blocks have to leave enough prefixes.
+    pub fn in_blocks(random: &mut Random, entries: usize, blocks: u64, longest: u32, hops: u64) -> Self {
+        let first = random.pick(&[0, 10 << 8 | 20, 0x8000, 65_536 - blocks]) as u32;
+        let prefix = |random: &mut Random| {
+            let length = if random.one_in(8) {
+                random.below(16) as u32
+            } else {
+                16 + random.below(u64::from(longest) - 15) as u32
+            };
+            let block = first + random.below(blocks) as u32;
+            (length, block << 16 | random.below(65_536) as u32)
+        };
+        Rows::distinct(random, entries, prefix, |random| 1 + random.below(hops) as u32)
+    }
+
     /// A list of so many distinct prefixes. A prefix is drawn as a length and an address, whose bits behind the length are put
     /// to 0, and drawn again if it is there already.
     pub fn distinct(

@@ -3,10 +3,10 @@
 
 mod both;
 
-use both::list::{list_of, one, set_p, with_one_fault};
-use both::ranges::{build, damage, lookup, lookups};
-use hawkmortar::{NextHop, Prefix, RangeTable, Refusal, MAX_RANGES, MAX_ROUTES};
-use second::book::Book;
+use both::list::{apart, list_of, one, prefix_at, routes, set_p, with_one_fault};
+use both::ranges::{build, built, damage, lookup, lookups};
+use both::{about, slots_of};
+use hawkmortar::{RangeTable, Refusal, MAX_RANGES, MAX_ROUTES};
 use second::list::{answer, bounds};
 use second::random::{Random, Rows};
 use second::ranges::{boundaries, Ranges};
@@ -18,37 +18,6 @@ use std::collections::BTreeSet;
 fn ranges_of(ranges: &[(u32, u32)]) -> Ranges {
     let (starts, hops) = ranges.iter().copied().unzip();
     Ranges { starts, hops }
-}
-
-/// The ranges of a good list, built with the room that is enough for every list of its size.
-fn built(list: &Rows) -> Ranges {
-    let entries = list.addresses.len();
-    let room = 2 * entries + 1;
-    let ranges = build(list, room, room + 3).unwrap();
-    let most = if list.lengths.contains(&0) { room - 2 } else { room };
-    assert!(ranges.starts.len() <= most, "{ranges:?} of {list:?}");
-    ranges
-}
-
-/// The slots of a good list, as the book has them.
-fn slots_of(list: &Rows) -> Image {
-    let entries = list.addresses.len();
-    let mut book = Book::new(entries.max(1));
-    for i in 0..entries {
-        book.set(list.addresses[i], list.lengths[i], list.hops[i], 54).unwrap();
-    }
-    let image = book.image();
-    assert_eq!(both::check(&image), Ok(entries));
-    image
-}
-
-/// Some addresses with their two neighbours, and the first and the last address of all.
-fn about(addresses: &[u32]) -> Vec<u32> {
-    let near = addresses
-        .iter()
-        .flat_map(|&a| [a.wrapping_sub(1), a, a.wrapping_add(1)]);
-    let keys: BTreeSet<u32> = near.chain([0, u32::MAX]).collect();
-    keys.into_iter().collect()
 }
 
 /// Both programs answer each key alike in the list, its slots and its ranges.
@@ -63,17 +32,6 @@ fn agreed(list: &Rows) -> Ranges {
     let ranges = built(list);
     agree(list, &slots_of(list), &ranges, &about(&boundaries(list)));
     ranges
-}
-
-/// So many prefixes of which no two touch and none has the first or the last address.
-fn apart(entries: usize) -> Rows {
-    let entries: Vec<_> = (0..entries as u32).map(|i| (4 * i + 2, 32, 1 + i)).collect();
-    list_of(&entries)
-}
-
-/// A prefix that an address lies in.
-fn prefix_at(q: u32, length: u32) -> u32 {
-    (u64::from(q) >> (32 - length) << (32 - length)) as u32
 }
 
 #[test]
@@ -671,15 +629,6 @@ fn a_range_table_does_what_its_rows_do() {
     let mut list = set_p();
     list.push(list.addresses[2], list.lengths[2], 9);
     assert_eq!(RangeTable::of(routes(&list)), Err(Refusal::Twice(5)));
-}
-
-/// The routes of a good list.
-fn routes(list: &Rows) -> impl Iterator<Item = (Prefix, NextHop)> + '_ {
-    let prefixes = list.addresses.iter().zip(&list.lengths);
-    prefixes.zip(&list.hops).map(|((&address, &length), &hop)| {
-        let prefix = Prefix::new(address, length).unwrap();
-        (prefix, NextHop::new(hop as u16).unwrap())
-    })
 }
 
 /// A table has these rows; its ranges follow each other over all addresses, and have the answers of lookups.

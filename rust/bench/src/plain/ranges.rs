@@ -60,7 +60,19 @@ impl Sweep {
     }
 }
 
-/// The ranges of a list; refusals as of the list's check, then 9.
+/// The ranges of a list, each by its start and hop; refusals as of the list's check.
+pub fn merged(addresses: &[u32], lengths: &[u32], hops: &[u32]) -> Result<Vec<(u32, u32)>, Fault> {
+    let n = check(addresses, lengths, hops)?;
+    let mut keys = Vec::with_capacity(n);
+    keys.extend((0..n).map(|i| key(addresses[i], lengths[i], hops[i])));
+    keys.sort_unstable();
+    let mut sweep = Sweep::new(n);
+    keys.iter().for_each(|&key| sweep.open(key));
+    sweep.close(ALL);
+    Ok(sweep.ranges)
+}
+
+/// The ranges of a list in two rows; refusals as of the list's check, then 9.
 #[inline(never)]
 pub fn build(
     addresses: &[u32],
@@ -69,14 +81,7 @@ pub fn build(
     starts: &mut [u32],
     range_hops: &mut [u32],
 ) -> Result<usize, Fault> {
-    let n = check(addresses, lengths, hops)?;
-    let mut keys = Vec::with_capacity(n);
-    keys.extend((0..n).map(|i| key(addresses[i], lengths[i], hops[i])));
-    keys.sort_unstable();
-    let mut sweep = Sweep::new(n);
-    keys.iter().for_each(|&key| sweep.open(key));
-    sweep.close(ALL);
-    let ranges = sweep.ranges;
+    let ranges = merged(addresses, lengths, hops)?;
     if starts.len() < ranges.len() || range_hops.len() < ranges.len() {
         return Err((9, 0));
     }

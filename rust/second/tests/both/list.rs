@@ -1,7 +1,7 @@
 //! The list calls, asked of both programs, and lists to ask for.
 
 use super::{fault, numbers};
-use hawkmortar::list as proved;
+use hawkmortar::{list as proved, NextHop, Prefix};
 use second::list as plain;
 use second::random::Rows;
 use second::{ip, Fault};
@@ -51,6 +51,26 @@ pub fn set_p() -> Rows {
         (ip([10, 20, 4, 9]), 32, 2),
         (0, 0, 7),
     ])
+}
+
+/// So many prefixes of which no two touch and none has the first or the last address.
+pub fn apart(entries: usize) -> Rows {
+    let entries: Vec<_> = (0..entries as u32).map(|i| (4 * i + 2, 32, 1 + i)).collect();
+    list_of(&entries)
+}
+
+/// A prefix that an address lies in.
+pub fn prefix_at(q: u32, length: u32) -> u32 {
+    (u64::from(q) >> (32 - length) << (32 - length)) as u32
+}
+
+/// The routes of a good list.
+pub fn routes(list: &Rows) -> impl Iterator<Item = (Prefix, NextHop)> + '_ {
+    let prefixes = list.addresses.iter().zip(&list.lengths);
+    prefixes.zip(&list.hops).map(|((&address, &length), &hop)| {
+        let prefix = Prefix::new(address, length).unwrap();
+        (prefix, NextHop::new(hop as u16).unwrap())
+    })
 }
 
 /// Copies of a good list with one fault each, and the refusal it is to get: each of 1, 2 and 3 at each place, and 4 at each place

@@ -1,18 +1,21 @@
 //! The calls, each asked of both programs: the answers are compared, and so is every cell that was lent. A refused call has left
 //! all of them as they were, an accepted one has changed exactly what the second program says. The slot calls are here, those of
-//! lists and ranges in their own modules.
+//! lists, ranges and DXR tables in their own modules.
 
 // a test file needs only a part
 #![allow(dead_code)]
 
+pub mod dxr;
 pub mod list;
 pub mod ranges;
 
 use hawkmortar::{slots as proved, NextHop, Refusal};
+use second::book::Book;
 use second::list::bounds;
-use second::random::Random;
+use second::random::{Random, Rows};
 use second::slots::{self as plain, Image};
 use second::Fault;
+use std::collections::BTreeSet;
 
 pub fn fault(refusal: Refusal) -> Fault {
     (refusal.number(), refusal.place())
@@ -124,6 +127,27 @@ pub fn apply(image: &mut Image, plan: &[u32], k: usize) -> Result<usize, Fault> 
 pub fn edges(address: u32, length: u32) -> [u32; 4] {
     let (first, last) = bounds(address, length);
     [first, last, first.wrapping_sub(1), last.wrapping_add(1)]
+}
+
+/// The slots of a good list, as the book has them.
+pub fn slots_of(list: &Rows) -> Image {
+    let entries = list.addresses.len();
+    let mut book = Book::new(entries.max(1));
+    for i in 0..entries {
+        book.set(list.addresses[i], list.lengths[i], list.hops[i], 54).unwrap();
+    }
+    let image = book.image();
+    assert_eq!(check(&image), Ok(entries));
+    image
+}
+
+/// Some addresses with their two neighbours, and the first and the last address of all.
+pub fn about(addresses: &[u32]) -> Vec<u32> {
+    let near = addresses
+        .iter()
+        .flat_map(|&a| [a.wrapping_sub(1), a, a.wrapping_add(1)]);
+    let keys: BTreeSet<u32> = near.chain([0, u32::MAX]).collect();
+    keys.into_iter().collect()
 }
 
 /// Changes one cell, or one row's length, so that most results are to be refused.

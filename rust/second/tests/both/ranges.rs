@@ -36,6 +36,16 @@ pub fn build(list: &Rows, starts_room: usize, hops_room: usize) -> Result<Ranges
     expected
 }
 
+/// The ranges of a good list, built with the room that is enough for every list of its size.
+pub fn built(list: &Rows) -> Ranges {
+    let entries = list.addresses.len();
+    let room = 2 * entries + 1;
+    let ranges = build(list, room, room + 3).unwrap();
+    let most = if list.lengths.contains(&0) { room - 2 } else { room };
+    assert!(ranges.starts.len() <= most, "{ranges:?} of {list:?}");
+    ranges
+}
+
 /// What the library answers for the address `q`.
 pub fn library_lookup(ranges: &Ranges, q: u32) -> Result<u32, Fault> {
     numbers(proved::lookup(&ranges.starts, &ranges.hops, q))

@@ -1,6 +1,6 @@
 -- The size of the main table, the list's fault, or the table of the list's ranges.
 use borrow.Author.Needs.{needs}
-use mathlib.Core.Path.{_≡_, sym, _∙_, ap}
+use mathlib.Core.Path.{_≡_, sym, ap}
 use native.Mathlib.Omega.{arith}
 use lib.Seq.{length-take-le}
 use Prim.Native.Nat.{_≤_}
@@ -11,8 +11,6 @@ use Rattle.dxr.proofs.DxrTable.{split-16}
 use Rattle.dxr.proofs.Builds.{built-sized, built-refused, built-split, made-fault, made-fine, made-starts, made-hops, made-table, made-splittable}
 use Rattle.dxr.proofs.build.build.Statement.{statement}
 use Rattle.dxr.proofs.build.build.Tie as tie
-use Rattle.dxr.proofs.build.build.Reads as reads
-use Rattle.dxr.proofs.build.build.Lts as lts
 
 -- the rows have room for any ranges
 roomy : maxRanges ≤ 8193

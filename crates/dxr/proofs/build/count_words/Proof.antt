@@ -1,76 +1,109 @@
--- Chunk by chunk. The measure is how many chunks are left.
+-- From one chunk in which a range starts to the next. The measure is how many ranges are left.
 use borrow.Author.Needs.{needs}
-use Prim.Native.Nat.{_-_, _≤_, _<_}
-use mathlib.Core.Path.{_≡_, refl}
+use Prim.Native.Nat.{ℕ, _+_, _-_, _/_, _<_}
+use mathlib.Core.Path.{refl}
 use native.Mathlib.Omega.{arith}
-use lib.ListN.{length}
-use Rattle.dxr.proofs.Passes.{CountedTo, reached-start, part-lies, part-equal, part-some, part-few, count-turn, count-low, count-end}
+use lib.ListN.{length, getD}
+use Rattle.dxr.proofs.DxrTable.{split-16}
+use Rattle.dxr.proofs.Parts.{part-lies, part-equal, part-some, part-few}
+use Rattle.dxr.proofs.Passes.{CountedTo, reached-start, next-later, next-there, next-free, next-ends}
+use Rattle.dxr.proofs.Passes.{count-skip, count-turn, count-low, count-end}
 use Rattle.dxr.proofs.build.count_words.Statement.{statement}
 use Rattle.dxr.proofs.build.count_words.Tie as tie
-use Rattle.dxr.proofs.build.count_words.Reads as reads
-use Rattle.dxr.proofs.build.count_words.Lts as lts
 
 abbrev Inv-loop : tie.InvT-loop
-Inv-loop starts hops from₀ count₀ c₀ from count c = CountedTo 32 16 starts hops from count c × (c ≤ 65536)
+Inv-loop starts hops from₀ count₀ from count = (c : ℕ) × CountedTo 32 16 starts hops from count c
 
 abbrev μ-loop : tie.MeasureT-loop
-μ-loop starts hops from₀ count₀ c₀ from count c = 65536 - c
+μ-loop starts hops from₀ count₀ from count = length starts - from
 
 loop-holds : tie.Need-loop-holds Inv-loop μ-loop
-loop-holds c = (record { reached = reached-start (c .before .before .pre); count = refl }, search needs)
+loop-holds c = (0, record { reached = reached-start (c .before .before .pre); count = refl })
+
+-- the chunk in which the next range starts: the chunks before it are counted
+small : (c : tie.After-shared-slice-known3 Inv-loop μ-loop) →
+    let l = c .before .before in getD (l .before .before .before .args .starts .now) (l .loop .from + 1) 0 < 4294967296
+small c = c .shared-slice-known3 .given (c .before .before .loop .from + 1) .fits
+
+there : (c : tie.After-shared-slice-known3 Inv-loop μ-loop) →
+    let l = c .before .before in getD (l .before .before .before .args .starts .now) (l .loop .from + 1) 0 / 65536 < 65536
+there c = next-there (c .before .before .loop .inv .1 .reached) split-16 (c .before .loop-test .taken) (small c)
+
+here : (c : tie.After-shared-slice-known3 Inv-loop μ-loop) →
+    let l = c .before .before in
+    let a = l .before .before .before .args in
+    CountedTo 32 16 (a .starts .now) (a .hops .now) (l .loop .from) (l .loop .count) (getD (a .starts .now) (l .loop .from + 1) 0 / 65536)
+here c =
+    let inv = c .before .before .loop .inv .1 in
+    let more = c .before .loop-test .taken in
+    count-skip inv (next-later (inv .reached) split-16 more (small c)) (omega (arith, there c)) (next-free (inv .reached) split-16 more (small c))
 
 part-at-requires : tie.Need-part-at-requires Inv-loop μ-loop
-part-at-requires c κs = let r = c .before .loop .inv .0 .reached in (r .within, r .start, search needs)
+part-at-requires c κs = (here c .reached .within, here c .reached .start, there c)
 
 mul-count : tie.Need-mul-count Inv-loop μ-loop
-mul-count c = let l = part-lies (c .before .before .loop .inv .0 .reached) (c .part-at .ensures) in search needs
+mul-count c = let l = part-lies (c .part-at .ensures .0) (here (c .before) .reached .rows) in search needs
 
 sub-count : tie.Need-sub-count Inv-loop μ-loop
-sub-count c = let l = part-lies (c .before .before .loop .inv .0 .reached) (c .part-at .ensures) in search needs
+sub-count c = let l = part-lies (c .part-at .ensures .0) (here (c .before) .reached .rows) in search needs
 
 part-count-start : tie.Need-part-count-start Inv-loop μ-loop
-part-count-start c = let l = part-lies (c .before .before .loop .inv .0 .reached) (c .part-at .ensures) in search needs
+part-count-start c = let l = part-lies (c .part-at .ensures .0) (here (c .before) .reached .rows) in search needs
 
 part-count-end : tie.Need-part-count-end Inv-loop μ-loop
-part-count-end c = let l = part-lies (c .before .before .loop .inv .0 .reached) (c .part-at .ensures) in search needs
+part-count-end c = let l = part-lies (c .part-at .ensures .0) (here (c .before) .reached .rows) in search needs
 
 mul-count-2 : tie.Need-mul-count-2 Inv-loop μ-loop
-mul-count-2 c = let l = part-lies (c .before .before .before .loop .inv .0 .reached) (c .before .part-at .ensures) in search needs
+mul-count-2 c = mul-count (c .before)
 
 sub-count-2 : tie.Need-sub-count-2 Inv-loop μ-loop
-sub-count-2 c = let l = part-lies (c .before .before .before .loop .inv .0 .reached) (c .before .part-at .ensures) in search needs
+sub-count-2 c = sub-count (c .before)
 
 part-count-start-2 : tie.Need-part-count-start-2 Inv-loop μ-loop
-part-count-start-2 c = let l = part-lies (c .before .before .before .loop .inv .0 .reached) (c .before .part-at .ensures) in search needs
+part-count-start-2 c = let l = part-lies (c .before .part-at .ensures .0) (here (c .before .before) .reached .rows) in search needs
 
 part-count-end-2 : tie.Need-part-count-end-2 Inv-loop μ-loop
-part-count-end-2 c = let l = part-lies (c .before .before .before .loop .inv .0 .reached) (c .before .part-at .ensures) in search needs
+part-count-end-2 c = let l = part-lies (c .before .part-at .ensures .0) (here (c .before .before) .reached .rows) in search needs
+
+mul-count-3 : tie.Need-mul-count-3 Inv-loop μ-loop
+mul-count-3 c = let l = there (c .before .before .before) in search needs
 
 count-requires : tie.Need-count-requires Inv-loop μ-loop
 count-requires c κs =
     let p = c .before .before in
-    let r = p .before .before .loop .inv .0 .reached in
-    let few = part-few r (p .part-at .ensures) in
-    (part-equal r (p .part-at .ensures), part-some r (p .part-at .ensures), omega arith)
+    let rows = here (p .before) .reached .rows in
+    let is = p .part-at .ensures .0 in
+    (part-equal is rows, part-some is rows, omega (arith, part-few is rows))
 
 add-count : tie.Need-add-count Inv-loop μ-loop
 add-count c =
     let p = c .before .before .before in
-    let low = count-low (p .before .before .loop .inv .0) (p .part-at .ensures) (c .count .ensures) in
+    let low = count-low (here (p .before)) (there (p .before)) (p .part-at .ensures .0) (c .count .ensures) in
     search needs
+
+sub-from : tie.Need-sub-from Inv-loop μ-loop
+sub-from c = let l = part-lies (c .before .before .before .part-at .ensures .0) (here (c .before .before .before .before) .reached .rows) in search needs
+
+loop-less : tie.Need-loop-less Inv-loop μ-loop
+loop-less c =
+    let p = c .before .before .before in
+    let k = p .before in
+    let more = k .before .loop-test .taken in
+    let past = next-ends (k .before .before .loop .inv .1 .reached) split-16 more (small k) (p .part-at .ensures .0) (p .part-at .ensures .1) in
+    omega (arith, more)
 
 loop-again : tie.Need-loop-again Inv-loop μ-loop
 loop-again c =
     let p = c .before .before .before in
-    (count-turn (p .before .before .loop .inv .0) (p .part-at .ensures) (c .count .ensures), search needs)
+    (_, count-turn (here (p .before)) (there (p .before)) (p .part-at .ensures .0) (c .count .ensures))
 
 returns : tie.Need-returns Inv-loop μ-loop
-returns c = count-end (c .before .loop .inv .0) (search needs)
+returns c = count-end (c .before .loop .inv .1) (c .loop-test .left)
 
 pub count-words-spec : {M : Type 1} → statement M
 count-words-spec =
     tie.close
     (tie.spec
-    Inv-loop μ-loop loop-holds (λ c. search needs) (λ c. search needs) part-at-requires mul-count sub-count part-count-start part-count-end
-    mul-count-2 sub-count-2 part-count-start-2 part-count-end-2 count-requires add-count (λ c. search needs)
-    (λ c. search needs) (λ c. search needs) loop-again returns)
+    Inv-loop μ-loop loop-holds (λ c. search needs) (λ c. search needs) (λ c. search needs) (λ c. search needs) part-at-requires mul-count sub-count
+    part-count-start part-count-end mul-count-2 sub-count-2 part-count-start-2 part-count-end-2 mul-count-3 count-requires add-count
+    sub-from loop-less loop-again returns)

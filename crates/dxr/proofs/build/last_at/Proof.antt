@@ -1,13 +1,10 @@
 -- Range by range: range i starts at or before x. The measure is what is left of the row.
 use borrow.Author.Needs.{needs}
 use Prim.Native.Nat.{_-_, _≤_, _<_}
-use native.Mathlib.Omega.{arith}
 use borrow.Author.Tests.{leb-false}
 use lib.ListN.{length, getD}
 use Rattle.dxr.proofs.build.last_at.Statement.{statement}
 use Rattle.dxr.proofs.build.last_at.Tie as tie
-use Rattle.dxr.proofs.build.last_at.Reads as reads
-use Rattle.dxr.proofs.build.last_at.Lts as lts
 
 abbrev Inv-loop : tie.InvT-loop
 Inv-loop starts from x i₀ i = (from ≤ i) × (i < length starts) × (getD starts i 0 ≤ x)

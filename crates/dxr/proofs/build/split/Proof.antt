@@ -3,8 +3,6 @@ use borrow.Author.Needs.{needs}
 use Rattle.dxr.proofs.Builds.{split-short, split-done}
 use Rattle.dxr.proofs.build.split.Statement.{statement}
 use Rattle.dxr.proofs.build.split.Tie as tie
-use Rattle.dxr.proofs.build.split.Reads as reads
-use Rattle.dxr.proofs.build.split.Lts as lts
 
 returns : tie.Need-returns
 returns c = split-short (c .before .count-words .ensures) (c .if1 .taken)

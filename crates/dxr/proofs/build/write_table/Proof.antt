@@ -1,82 +1,176 @@
--- Chunk by chunk. The measure is how many chunks are left.
+-- From one chunk in which a range starts to the next. The measure is how many ranges are left.
 use borrow.Author.Needs.{needs}
-use Prim.Native.Nat.{_-_}
+use Prim.Native.Nat.{_+_, _-_, _/_, _≤_, _<_}
 use mathlib.Core.Path.{sym, _∙_}
 use native.Mathlib.Omega.{arith}
+use borrow.Rule.Slice.PartMut.{putMid}
+use lib.ListN.{length, getD}
 use Rattle.dxr.proofs.DxrTable.{split-16}
-use Rattle.dxr.proofs.Passes.{WrittenTo, written-start, written-room, written-turn, written-end, main-length, words-length, part-lies}
+use Rattle.dxr.proofs.Parts.{part-lies}
+use Rattle.dxr.proofs.Passes.{next-later, next-there, next-free, next-ends, main-length, words-length}
+use Rattle.dxr.proofs.Passes.{WrittenTo, written-start, written-skip, written-rest, written-room, written-turn, written-end}
 use Rattle.dxr.proofs.build.write_table.Statement.{statement}
 use Rattle.dxr.proofs.build.write_table.Tie as tie
-use Rattle.dxr.proofs.build.write_table.Reads as reads
-use Rattle.dxr.proofs.build.write_table.Lts as lts
 
 abbrev Inv-loop : tie.InvT-loop
 Inv-loop starts hops main₀ words₀ from₀ used₀ c₀ main words from used c = WrittenTo 32 16 starts hops main₀ words₀ main words from used c
 
 abbrev μ-loop : tie.MeasureT-loop
-μ-loop starts hops main₀ words₀ from₀ used₀ c₀ main words from used c = 65536 - c
+μ-loop starts hops main₀ words₀ from₀ used₀ c₀ main words from used c = length starts - from
 
 loop-holds : tie.Need-loop-holds Inv-loop μ-loop
 loop-holds c = let s = c .before .before .before .before in written-start (s .pre .0) (s .pre .1 .0) (s .pre .1 .1)
 
+-- the chunk in which the next range starts
+small : (c : tie.After-shared-slice-known3 Inv-loop μ-loop) →
+    let l = c .before .before in getD (l .before .before .before .before .before .args .starts .now) (l .loop .from + 1) 0 < 4294967296
+small c = c .shared-slice-known3 .given (c .before .before .loop .from + 1) .fits
+
+later : (c : tie.After-shared-slice-known3 Inv-loop μ-loop) →
+    let l = c .before .before in l .loop .c ≤ getD (l .before .before .before .before .before .args .starts .now) (l .loop .from + 1) 0 / 65536
+later c = next-later (c .before .before .loop .inv .reached) split-16 (c .before .loop-test .taken) (small c)
+
+there : (c : tie.After-shared-slice-known3 Inv-loop μ-loop) →
+    let l = c .before .before in getD (l .before .before .before .before .before .args .starts .now) (l .loop .from + 1) 0 / 65536 < 65536
+there c = next-there (c .before .before .loop .inv .reached) split-16 (c .before .loop-test .taken) (small c)
+
+-- the chunks before it are written
+here : (c : tie.After-fill Inv-loop μ-loop) →
+    let k = c .before .before .before in
+    let l = k .before .before in
+    let a = l .before .before .before .before .before .args in
+    let d = getD (a .starts .now) (l .loop .from + 1) 0 / 65536 in
+    WrittenTo 32 16 (a .starts .now) (a .hops .now) (a .main .now) (a .words .now)
+    (putMid (l .loop .c) (d - l .loop .c) (l .loop .main) (c .fill .last .0)) (l .loop .words) (l .loop .from) (l .loop .used) d
+here c =
+    let k = c .before .before .before in
+    let inv = k .before .before .loop .inv in
+    written-skip inv (later k) (omega (arith, there k)) (next-free (inv .reached) split-16 (k .before .loop-test .taken) (small k)) (c .fill .ensures)
+
+cast-next : tie.Need-cast-next Inv-loop μ-loop
+cast-next c = let l = small c in search needs
+
+mul-fill : tie.Need-mul-fill Inv-loop μ-loop
+mul-fill c = let l = later c in let m = there c in let n = main-length (c .before .before .loop .inv) in search needs
+
+sub-fill : tie.Need-sub-fill Inv-loop μ-loop
+sub-fill c = let l = later c in let m = there c in let n = main-length (c .before .before .loop .inv) in search needs
+
+part-fill-start : tie.Need-part-fill-start Inv-loop μ-loop
+part-fill-start c = let l = later c in let m = there c in let n = main-length (c .before .before .loop .inv) in search needs
+
+part-fill-end : tie.Need-part-fill-end Inv-loop μ-loop
+part-fill-end c = let l = later c in let m = there c in let n = main-length (c .before .before .loop .inv) in search needs
+
+shared-slice-read-fill : tie.Need-shared-slice-read-fill Inv-loop μ-loop
+shared-slice-read-fill c = let r = c .before .before .before .before .loop .inv .reached in omega (arith, r .within, r .rows .equal)
+
 part-at-requires : tie.Need-part-at-requires Inv-loop μ-loop
-part-at-requires c κs = let r = c .before .loop .inv .reached in (r .within, r .start, search needs)
+part-at-requires c κs = let r = here (c .before .before) .reached in (r .within, r .start, there (c .before .before .before .before .before))
+
+mul-base : tie.Need-mul-base Inv-loop μ-loop
+mul-base c = let l = small (c .before .before .before .before .before .before) in search needs
 
 mul-store : tie.Need-mul-store Inv-loop μ-loop
-mul-store c = let l = part-lies (c .before .before .loop .inv .reached) (c .part-at .ensures) in search needs
+mul-store c = let l = part-lies (c .part-at .ensures .0) (here (c .before .before .before) .reached .rows) in search needs
 
 sub-store : tie.Need-sub-store Inv-loop μ-loop
-sub-store c = let l = part-lies (c .before .before .loop .inv .reached) (c .part-at .ensures) in search needs
+sub-store c = let l = part-lies (c .part-at .ensures .0) (here (c .before .before .before) .reached .rows) in search needs
 
 part-store-start : tie.Need-part-store-start Inv-loop μ-loop
-part-store-start c = let l = part-lies (c .before .before .loop .inv .reached) (c .part-at .ensures) in search needs
+part-store-start c = let l = part-lies (c .part-at .ensures .0) (here (c .before .before .before) .reached .rows) in search needs
 
 part-store-end : tie.Need-part-store-end Inv-loop μ-loop
-part-store-end c = let l = part-lies (c .before .before .loop .inv .reached) (c .part-at .ensures) in search needs
+part-store-end c = let l = part-lies (c .part-at .ensures .0) (here (c .before .before .before) .reached .rows) in search needs
 
 mul-store-2 : tie.Need-mul-store-2 Inv-loop μ-loop
-mul-store-2 c = let l = part-lies (c .before .before .before .loop .inv .reached) (c .before .part-at .ensures) in search needs
+mul-store-2 c = let l = part-lies (c .before .part-at .ensures .0) (here (c .before .before .before .before) .reached .rows) in search needs
 
 sub-store-2 : tie.Need-sub-store-2 Inv-loop μ-loop
-sub-store-2 c = let l = part-lies (c .before .before .before .loop .inv .reached) (c .before .part-at .ensures) in search needs
+sub-store-2 c = let l = part-lies (c .before .part-at .ensures .0) (here (c .before .before .before .before) .reached .rows) in search needs
 
 part-store-start-2 : tie.Need-part-store-start-2 Inv-loop μ-loop
-part-store-start-2 c = let l = part-lies (c .before .before .before .loop .inv .reached) (c .before .part-at .ensures) in search needs
+part-store-start-2 c = let l = part-lies (c .before .part-at .ensures .0) (here (c .before .before .before .before) .reached .rows) in search needs
 
 part-store-end-2 : tie.Need-part-store-end-2 Inv-loop μ-loop
-part-store-end-2 c = let l = part-lies (c .before .before .before .loop .inv .reached) (c .before .part-at .ensures) in search needs
+part-store-end-2 c = let l = part-lies (c .before .part-at .ensures .0) (here (c .before .before .before .before) .reached .rows) in search needs
 
 store-requires : tie.Need-store-requires Inv-loop μ-loop
 store-requires c κs =
     let p = c .before .before .before in
-    written-room (p .before .before .loop .inv) (search needs) split-16 (p .part-at .ensures)
+    let f = p .before .before .before in
+    written-room (here f) (there (f .before .before .before)) split-16 (p .part-at .ensures .0)
+
+mul-main : tie.Need-mul-main Inv-loop μ-loop
+mul-main c = record { fits = omega (arith, small (c .before .before .before .before .before .before .before .before .before .before .before .before)) }
 
 slice-write-main : tie.Need-slice-write-main Inv-loop μ-loop
 slice-write-main c =
-    let l = c .before .before .before .before .before .before .before .before in
-    omega (arith, main-length (l .loop .inv), c .before .before .before .before .before .before .before .loop-test .taken)
+    let f = c .before .before .before .before .before .before .before .before .before in
+    omega (arith, there (f .before .before .before), main-length (here f))
 
 sub-from : tie.Need-sub-from Inv-loop μ-loop
-sub-from c = omega (arith, c .before .before .before .before .before .before .part-at .ensures .some)
+sub-from c = let l = c .before .before .before .before .before .before .part-at .ensures .0 .some in search needs
+
+add-c : tie.Need-add-c Inv-loop μ-loop
+add-c c = record { fits = omega (arith, small (c .before .before .before .before .before .before .before .before .before .before .before .before)) }
+
+loop-less : tie.Need-loop-less Inv-loop μ-loop
+loop-less c =
+    let p = c .before .before .before .before .before .before in
+    let k = p .before .before .before .before .before .before in
+    let more = k .before .loop-test .taken in
+    let past = next-ends (k .before .before .loop .inv .reached) split-16 more (small k) (p .part-at .ensures .0) (p .part-at .ensures .1) in
+    omega (arith, more)
 
 loop-again : tie.Need-loop-again Inv-loop μ-loop
 loop-again c =
     let p = c .before .before .before .before .before .before in
-    written-turn (p .before .before .loop .inv) (search needs) split-16 (p .part-at .ensures) (c .before .before .store .ensures)
+    let f = p .before .before .before in
+    written-turn (here f) (there (f .before .before .before)) split-16 (p .part-at .ensures .0) (c .before .before .store .ensures)
+
+mul-fill-3 : tie.Need-mul-fill-3 Inv-loop μ-loop
+mul-fill-3 c = let l = c .before .loop .inv .reached .upto in let m = main-length (c .before .loop .inv) in search needs
+
+sub-fill-2 : tie.Need-sub-fill-2 Inv-loop μ-loop
+sub-fill-2 c = let l = c .before .loop .inv .reached .upto in let m = main-length (c .before .loop .inv) in search needs
+
+part-fill-start-2 : tie.Need-part-fill-start-2 Inv-loop μ-loop
+part-fill-start-2 c = let l = c .before .loop .inv .reached .upto in let m = main-length (c .before .loop .inv) in search needs
+
+part-fill-end-2 : tie.Need-part-fill-end-2 Inv-loop μ-loop
+part-fill-end-2 c = let l = c .before .loop .inv .reached .upto in let m = main-length (c .before .loop .inv) in search needs
+
+shared-slice-read-fill-2 : tie.Need-shared-slice-read-fill-2 Inv-loop μ-loop
+shared-slice-read-fill-2 c = let r = c .before .before .before .loop .inv .reached in omega (arith, r .within, r .rows .equal)
+
+-- all chunks are written
+rest : (c : tie.After-slice-known5 Inv-loop μ-loop) →
+    let l = c .before .before .before .before .before .before in
+    let a = l .before .before .before .before .before .args in
+    WrittenTo 32 16 (a .starts .now) (a .hops .now) (a .main .now) (a .words .now)
+    (putMid (l .loop .c) (length (l .loop .main) - l .loop .c) (l .loop .main) (c .before .before .fill2 .last .0))
+    (l .loop .words) (l .loop .from) (l .loop .used) 65536
+rest c =
+    let e = c .before .before .before .before .before in
+    written-rest (e .before .loop .inv) (e .loop-test .left) (c .before .before .fill2 .ensures)
 
 same-length : tie.Need-same-length Inv-loop μ-loop
-same-length c = main-length (c .before .loop .inv) ∙ sym (c .before .loop .inv .size)
+same-length c = main-length (rest c) ∙ sym (rest c .size)
 
 same-length-2 : tie.Need-same-length-2 Inv-loop μ-loop
-same-length-2 c = words-length (c .before .loop .inv)
+same-length-2 c = words-length (rest c)
 
 returns : tie.Need-returns Inv-loop μ-loop
-returns c = written-end (c .before .loop .inv) (c .loop-test .left)
+returns c = written-end (rest c)
 
 pub write-table-spec : {M : Type 1} → statement M
 write-table-spec =
     tie.close
     (tie.spec
-    Inv-loop μ-loop loop-holds (λ c. search needs) (λ c. search needs) part-at-requires mul-store sub-store part-store-start part-store-end
-    mul-store-2 sub-store-2 part-store-start-2 part-store-end-2 store-requires (λ c. search needs) slice-write-main sub-from (λ c. search needs)
-    (λ c. search needs) loop-again same-length same-length-2 returns)
+    Inv-loop μ-loop loop-holds (λ c. search needs) (λ c. search needs) (λ c. search needs) (λ c. search needs) cast-next
+    mul-fill sub-fill part-fill-start part-fill-end (λ c. search needs) shared-slice-read-fill (λ c κs. search needs)
+    part-at-requires mul-base mul-store sub-store part-store-start part-store-end mul-store-2 sub-store-2 part-store-start-2
+    part-store-end-2 store-requires mul-main slice-write-main sub-from add-c loop-less loop-again mul-fill-3 sub-fill-2
+    part-fill-start-2 part-fill-end-2 (λ c. search needs) shared-slice-read-fill-2 (λ c κs. search needs) same-length
+    same-length-2 returns)

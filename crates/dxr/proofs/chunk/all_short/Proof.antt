@@ -7,8 +7,6 @@ use lib.ListN.{length}
 use Rattle.dxr.proofs.Entries.{ShortTo, short-stop, short-turn, short-end}
 use Rattle.dxr.proofs.chunk.all_short.Statement.{statement}
 use Rattle.dxr.proofs.chunk.all_short.Tie as tie
-use Rattle.dxr.proofs.chunk.all_short.Reads as reads
-use Rattle.dxr.proofs.chunk.all_short.Lts as lts
 
 abbrev Inv-loop : tie.InvT-loop
 Inv-loop starts hops base i₀ i = ShortTo base starts hops i

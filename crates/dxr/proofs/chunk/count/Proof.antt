@@ -3,8 +3,6 @@ use borrow.Author.Needs.{needs}
 use Rattle.dxr.proofs.Entries.{count-one, count-many}
 use Rattle.dxr.proofs.chunk.count.Statement.{statement}
 use Rattle.dxr.proofs.chunk.count.Tie as tie
-use Rattle.dxr.proofs.chunk.count.Reads as reads
-use Rattle.dxr.proofs.chunk.count.Lts as lts
 
 returns : tie.Need-returns
 returns c = let s = c .before .before .before in count-one (s .args .base) (s .args .starts .now) (s .args .hops .now) (s .pre .0) (c .if1 .taken)

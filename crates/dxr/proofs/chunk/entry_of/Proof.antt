@@ -5,8 +5,6 @@ use lib.ListN.{getD}
 use Rattle.ranges.specs.Ranges.{range}
 use Rattle.dxr.proofs.chunk.entry_of.Statement.{statement}
 use Rattle.dxr.proofs.chunk.entry_of.Tie as tie
-use Rattle.dxr.proofs.chunk.entry_of.Reads as reads
-use Rattle.dxr.proofs.chunk.entry_of.Lts as lts
 
 returns : tie.Need-returns
 returns c = let a = c .before .before .before .before .before .args in ap (λ s. range s (getD (a .hops .now) (a .i) 0)) (c .before .above .ensures)

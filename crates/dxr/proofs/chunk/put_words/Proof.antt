@@ -10,8 +10,6 @@ use Rattle.dxr.specs.Loops.{entriesFrom}
 use Rattle.dxr.proofs.Entries.{encoded-size}
 use Rattle.dxr.proofs.chunk.put_words.Statement.{statement}
 use Rattle.dxr.proofs.chunk.put_words.Tie as tie
-use Rattle.dxr.proofs.chunk.put_words.Reads as reads
-use Rattle.dxr.proofs.chunk.put_words.Lts as lts
 
 abbrev Inv-loop : tie.InvT-loop
 Inv-loop starts hops base short part₀ k₀ part k = FilledTo (encoded short (entriesFrom base starts hops)) part₀ part k
@@ -48,4 +46,6 @@ returns c =
 pub put-words-spec : {M : Type 1} → statement M
 put-words-spec =
     tie.close
-    (tie.spec Inv-loop μ-loop loop-holds word-at-requires (λ c. search needs) (λ c. search needs) (λ c. search needs) (λ c. search needs) loop-again (λ c. search needs) returns)
+    (tie.spec
+    Inv-loop μ-loop loop-holds word-at-requires (λ c. search needs) (λ c. search needs) (λ c. search needs)
+    (λ c. search needs) loop-again (λ c. search needs) returns)

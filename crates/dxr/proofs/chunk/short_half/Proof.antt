@@ -6,8 +6,6 @@ use Rattle.dxr.specs.Dxr.{shortEntry}
 use Rattle.dxr.proofs.Entries.{entry-is, entry-fits, entry-short, entry-none}
 use Rattle.dxr.proofs.chunk.short_half.Statement.{statement}
 use Rattle.dxr.proofs.chunk.short_half.Tie as tie
-use Rattle.dxr.proofs.chunk.short_half.Reads as reads
-use Rattle.dxr.proofs.chunk.short_half.Lts as lts
 
 add-result : tie.Need-add-result
 add-result c =

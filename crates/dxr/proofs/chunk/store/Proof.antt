@@ -4,8 +4,6 @@ use mathlib.Core.Path.{refl}
 use Rattle.dxr.proofs.Entries.{stored-one, stored-form, stored-end, stored-part, stored-many}
 use Rattle.dxr.proofs.chunk.store.Statement.{statement}
 use Rattle.dxr.proofs.chunk.store.Tie as tie
-use Rattle.dxr.proofs.chunk.store.Reads as reads
-use Rattle.dxr.proofs.chunk.store.Lts as lts
 
 returns : tie.Need-returns
 returns c = stored-one (c .before .before .before .before .before .pre) (c .before .if1 .taken) refl refl
@@ -20,13 +18,16 @@ put-words-requires : tie.Need-put-words-requires
 put-words-requires c κs =
     let p = c .before in
     let s = p .before .before .before .before .before .before in
-    (stored-form (s .pre) (search needs) (p .before .all-short .ensures) (p .part-length .ensures .0), stored-part (s .pre) (search needs) (p .before .all-short .ensures) (p .part-length .ensures .0))
+    let short = p .before .all-short .ensures in
+    let many = p .part-length .ensures .0 in
+    (stored-form (s .pre) (search needs) short many, stored-part (s .pre) (search needs) short many)
 
 returns-2 : tie.Need-returns-2
 returns-2 c =
     let p = c .before .before .before .before .before in
     let s = p .before .before .before .before .before .before in
-    stored-many (s .pre) (search needs) (p .before .all-short .ensures) (p .part-length .ensures .0) (c .pointer-to .ensures) refl (c .before .before .before .put-words .ensures)
+    stored-many (s .pre) (search needs) (p .before .all-short .ensures) (p .part-length .ensures .0) (c .pointer-to .ensures) refl
+    (c .before .before .before .put-words .ensures)
 
 pub store-spec : {M : Type 1} → statement M
 store-spec =

@@ -2,16 +2,13 @@
 use borrow.Author.Needs.{needs}
 use Prim.Native.Nat.{_+_, _*_, _/_, _<_}
 use mathlib.Core.Path.{sym, _∙_, ap, ap₂}
-use mathlib.Core.Bool.{true, false}
-use native.Mathlib.Omega.{arith}
+use mathlib.Core.Bool.{true}
 use lib.ListN.{length}
 use Rattle.dxr.specs.Dxr.{longEntry}
 use Rattle.dxr.specs.Loops.{entriesFrom, Encodable}
 use Rattle.dxr.proofs.Entries.{entry-is, entry-fits, long-get, short-get}
 use Rattle.dxr.proofs.chunk.word_at.Statement.{statement}
 use Rattle.dxr.proofs.chunk.word_at.Tie as tie
-use Rattle.dxr.proofs.chunk.word_at.Reads as reads
-use Rattle.dxr.proofs.chunk.word_at.Lts as lts
 
 -- the word is one of the form's
 half-within : (c : tie.Then1) → c .before .before .before .args .k < (length (c .before .before .before .args .starts .now) + 1) / 2

@@ -1,13 +1,11 @@
 -- Entry by entry. The measure is how many are left.
 use borrow.Author.Needs.{needs}
 use Prim.Native.Nat.{_-_}
-use mathlib.Core.Path.{refl, sym, _∙_}
+use mathlib.Core.Path.{refl, _∙_}
 use Rattle.dxr.specs.Dxr.{decoded}
 use Rattle.dxr.proofs.Scans.{PassedTo, passed-stop, passed-turn, passed-end, decoded-length, decoded-at, entry-within}
 use Rattle.dxr.proofs.lookup.look_behind.Statement.{statement}
 use Rattle.dxr.proofs.lookup.look_behind.Tie as tie
-use Rattle.dxr.proofs.lookup.look_behind.Reads as reads
-use Rattle.dxr.proofs.lookup.look_behind.Lts as lts
 
 abbrev Inv-loop : tie.InvT-loop
 Inv-loop part short count first key chunk last₀ hop₀ i₀ last hop i = PassedTo 65536 chunk (decoded short count part) key first last hop i

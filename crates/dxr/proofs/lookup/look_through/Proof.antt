@@ -1,11 +1,9 @@
 -- The first entry, then the others, as the definition tests them.
 use borrow.Author.Needs.{needs}
-use mathlib.Core.Path.{refl, sym, _∙_}
+use mathlib.Core.Path.{_∙_}
 use Rattle.dxr.proofs.Scans.{first-stop, first-rest, decoded-at, entry-within}
 use Rattle.dxr.proofs.lookup.look_through.Statement.{statement}
 use Rattle.dxr.proofs.lookup.look_through.Tie as tie
-use Rattle.dxr.proofs.lookup.look_through.Reads as reads
-use Rattle.dxr.proofs.lookup.look_through.Lts as lts
 
 entry-at-requires : tie.Need-entry-at-requires
 entry-at-requires c κs =

@@ -4,8 +4,6 @@ use borrow.Author.Tests.{eq-eqb}
 use Rattle.route.proofs.Tests.{tests}
 use Rattle.dxr.proofs.lookup.lookup.Statement.{statement}
 use Rattle.dxr.proofs.lookup.lookup.Tie as tie
-use Rattle.dxr.proofs.lookup.lookup.Reads as reads
-use Rattle.dxr.proofs.lookup.lookup.Lts as lts
 
 returns : tie.Need-returns
 returns c = search tests
