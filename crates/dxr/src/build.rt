@@ -17,6 +17,7 @@ ghost use Rattle.dxr.specs.Shown.{IsPart};
 use crate::Built;
 use crate::MAIN_WORDS;
 use crate::chunk;
+use ranges::MAX_RANGES;
 use route::Counted;
 use route::Refusal;
 
@@ -81,8 +82,8 @@ fn fill(part: &mut [u32], number: u32)
     }
 }
 
-// Writes the table of these ranges. Up to the next chunk in which a range starts, and behind the last,
-// a chunk has the hop of the range that it lies in.
+// Writes the table of these ranges. Up to the next chunk in which a range starts, and behind the last
+// one, a chunk lies in one range and has its hop.
 fn write_table(starts: &[u32], hops: &[u32], main: &mut [u32], words: &mut [u32])
     requires { ⌜ Splittable 32 16 (now starts) (now hops) ⌝ }
     requires { ⌜ (length (now main) ≡ 65536) × (length (tableWords 32 16 (ranges (now starts) (now hops))) ≤ length (now words)) ⌝ }
@@ -91,11 +92,11 @@ fn write_table(starts: &[u32], hops: &[u32], main: &mut [u32], words: &mut [u32]
 {
     let mut from = 0;
     let mut used = 0;
-    let mut c = 0;
+    let mut done = 0;
     while from + 1 < starts.len() {
         let chunk = starts[from + 1] / 65536;
         let next = chunk as usize;
-        fill(&mut main[c..next], hops[from]);
+        fill(&mut main[done..next], hops[from]);
         let part = part_at(starts, from, chunk);
         let first = part.first;
         let end = part.end;
@@ -104,9 +105,9 @@ fn write_table(starts: &[u32], hops: &[u32], main: &mut [u32], words: &mut [u32]
         main[next] = stored.word;
         used = stored.used;
         from = end - 1;
-        c = next + 1;
+        done = next + 1;
     }
-    fill(&mut main[c..], hops[from]);
+    fill(&mut main[done..], hops[from]);
 }
 
 // The table of ranges of which one can be made: how many range words it has, or refusal 9.
@@ -138,8 +139,8 @@ pub fn build(
     if main.len() != MAIN_WORDS {
         return Counted::Refused(Refusal::Size);
     }
-    let mut starts = [0u32; 8193];
-    let mut range_hops = [0u32; 8193];
+    let mut starts = [0u32; MAX_RANGES];
+    let mut range_hops = [0u32; MAX_RANGES];
     match ranges::build::build(addresses, lengths, hops, &mut starts, &mut range_hops) {
         Counted::Refused(f) => Counted::Refused(f),
         Counted::Count(n) => split(&starts[..n], &range_hops[..n], main, words),

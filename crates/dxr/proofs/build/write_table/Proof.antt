@@ -13,10 +13,10 @@ use Rattle.dxr.proofs.build.write_table.Statement.{statement}
 use Rattle.dxr.proofs.build.write_table.Tie as tie
 
 abbrev Inv-loop : tie.InvT-loop
-Inv-loop starts hops main₀ words₀ from₀ used₀ c₀ main words from used c = WrittenTo 32 16 starts hops main₀ words₀ main words from used c
+Inv-loop starts hops main₀ words₀ from₀ used₀ done₀ main words from used done = WrittenTo 32 16 starts hops main₀ words₀ main words from used done
 
 abbrev μ-loop : tie.MeasureT-loop
-μ-loop starts hops main₀ words₀ from₀ used₀ c₀ main words from used c = length starts - from
+μ-loop starts hops main₀ words₀ from₀ used₀ done₀ main words from used done = length starts - from
 
 loop-holds : tie.Need-loop-holds Inv-loop μ-loop
 loop-holds c = let s = c .before .before .before .before in written-start (s .pre .0) (s .pre .1 .0) (s .pre .1 .1)
@@ -27,7 +27,7 @@ small : (c : tie.After-shared-slice-known3 Inv-loop μ-loop) →
 small c = c .shared-slice-known3 .given (c .before .before .loop .from + 1) .fits
 
 later : (c : tie.After-shared-slice-known3 Inv-loop μ-loop) →
-    let l = c .before .before in l .loop .c ≤ getD (l .before .before .before .before .before .args .starts .now) (l .loop .from + 1) 0 / 65536
+    let l = c .before .before in l .loop .done ≤ getD (l .before .before .before .before .before .args .starts .now) (l .loop .from + 1) 0 / 65536
 later c = next-later (c .before .before .loop .inv .reached) split-16 (c .before .loop-test .taken) (small c)
 
 there : (c : tie.After-shared-slice-known3 Inv-loop μ-loop) →
@@ -41,7 +41,7 @@ here : (c : tie.After-fill Inv-loop μ-loop) →
     let a = l .before .before .before .before .before .args in
     let d = getD (a .starts .now) (l .loop .from + 1) 0 / 65536 in
     WrittenTo 32 16 (a .starts .now) (a .hops .now) (a .main .now) (a .words .now)
-    (putMid (l .loop .c) (d - l .loop .c) (l .loop .main) (c .fill .last .0)) (l .loop .words) (l .loop .from) (l .loop .used) d
+    (putMid (l .loop .done) (d - l .loop .done) (l .loop .main) (c .fill .last .0)) (l .loop .words) (l .loop .from) (l .loop .used) d
 here c =
     let k = c .before .before .before in
     let inv = k .before .before .loop .inv in
@@ -112,8 +112,8 @@ slice-write-main c =
 sub-from : tie.Need-sub-from Inv-loop μ-loop
 sub-from c = let l = c .before .before .before .before .before .before .part-at .ensures .0 .some in search needs
 
-add-c : tie.Need-add-c Inv-loop μ-loop
-add-c c = record { fits = omega (arith, small (c .before .before .before .before .before .before .before .before .before .before .before .before)) }
+add-done : tie.Need-add-done Inv-loop μ-loop
+add-done c = record { fits = omega (arith, small (c .before .before .before .before .before .before .before .before .before .before .before .before)) }
 
 loop-less : tie.Need-loop-less Inv-loop μ-loop
 loop-less c =
@@ -149,7 +149,7 @@ rest : (c : tie.After-slice-known5 Inv-loop μ-loop) →
     let l = c .before .before .before .before .before .before in
     let a = l .before .before .before .before .before .args in
     WrittenTo 32 16 (a .starts .now) (a .hops .now) (a .main .now) (a .words .now)
-    (putMid (l .loop .c) (length (l .loop .main) - l .loop .c) (l .loop .main) (c .before .before .fill2 .last .0))
+    (putMid (l .loop .done) (length (l .loop .main) - l .loop .done) (l .loop .main) (c .before .before .fill2 .last .0))
     (l .loop .words) (l .loop .from) (l .loop .used) 65536
 rest c =
     let e = c .before .before .before .before .before in
@@ -171,6 +171,6 @@ write-table-spec =
     Inv-loop μ-loop loop-holds (λ c. search needs) (λ c. search needs) (λ c. search needs) (λ c. search needs) cast-next
     mul-fill sub-fill part-fill-start part-fill-end (λ c. search needs) shared-slice-read-fill (λ c κs. search needs)
     part-at-requires mul-base mul-store sub-store part-store-start part-store-end mul-store-2 sub-store-2 part-store-start-2
-    part-store-end-2 store-requires mul-main slice-write-main sub-from add-c loop-less loop-again mul-fill-3 sub-fill-2
+    part-store-end-2 store-requires mul-main slice-write-main sub-from add-done loop-less loop-again mul-fill-3 sub-fill-2
     part-fill-start-2 part-fill-end-2 (λ c. search needs) shared-slice-read-fill-2 (λ c κs. search needs) same-length
     same-length-2 returns)
