@@ -95,10 +95,11 @@ module _ {W S c : ℕ} {ss : List ℕ} {p : Part} (is : IsPart W S c ss p) where
   part row = take (p .end - p .first) (drop (p .first) row)
 
   module _ {hs : List ℕ} (rows : Splittable W S ss hs) where
-    pub part-lies : (p .first < p .end) × (p .end ≤ length ss) × (p .end ≤ length hs)
+    -- it lies in both rows
+    pub part-lies : (p .first ≤ p .end) × (p .end ≤ length ss) × (p .end ≤ length hs)
     part-lies =
         let e : p .end ≤ length ss = omega (arith, is .some, is .last .within) in
-        (is .some, e, omega (arith, rows .equal))
+        (omega (arith, is .some), e, omega (arith, rows .equal))
 
     size : (row : List ℕ) → p .end ≤ length row → length (part row) ≡ p .end - p .first
     size row l = length-take-le (p .end - p .first) (drop (p .first) row) (simp length-drop (omega (arith, is .some)))
@@ -111,6 +112,10 @@ module _ {W S c : ℕ} {ss : List ℕ} {p : Part} (is : IsPart W S c ss p) where
 
     pub part-few : length (part ss) < 16384
     part-few = omega (arith, size ss (part-lies .1), part-lies, rows .few)
+
+    -- what a chunk's function asks of the two parts
+    pub part-ready : {ps ph : List ℕ} → ps ≡ part ss → ph ≡ part hs → (length ps ≡ length ph) × (0 < length ps) × (length ps < 16384)
+    part-ready a b = rw (a, b) (part-equal, part-some, part-few)
 
     pub chunk-part : chunk W S (ranges ss hs) c ≡ entriesFrom (c * chunkSize W S) (part ss) (part hs)
     chunk-part =

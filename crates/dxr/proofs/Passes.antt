@@ -4,11 +4,10 @@ use Prim.Native.Nat.{ℕ, zero, suc, _+_, _-_, _*_, _/_, _^_, _≤_, _<_}
 use mathlib.Core.Path.{_≡_, refl, sym, _∙_, ap}
 use mathlib.Core.List.{List, [], _∷_, _++_, append-nil, append-assoc}
 use native.Mathlib.Omega.{arith}
-use native.Mathlib.Nat.{add-zero, div-add-mod', mod-lt, mul-le-mul-right, le-div-iff-mul-le}
+use native.Mathlib.Nat.{add-zero, div-add-mod', mod-lt, le-div-iff-mul-le}
 use native.Mathlib.Numerals.{add-one}
 use lib.Dec.{eqb}
-use borrow.Rule.Slice.PartMut.{midOf, putMid, mid-len}
-use lib.ListN.{length, getD, set, replicate, length-append, length-replicate, replicate-append-replicate}
+use lib.ListN.{length, getD, set, replicate, length-append, replicate-append-replicate}
 use lib.Pow.{pow-pos}
 use lib.Seq.{length-sets, sets}
 use Rattle.route.proofs.Tests.{orders, byTest}
@@ -21,7 +20,7 @@ use Rattle.dxr.specs.Shown.{IsPart, IsStored}
 use Rattle.dxr.specs.declared.build.Part.{Part}
 use Rattle.dxr.specs.declared.chunk.Stored.{Stored}
 use Rattle.dxr.proofs.Rising.{fine-rises}
-use Rattle.dxr.proofs.Rows.{put-sets, sets-more, sets-front}
+use Rattle.dxr.proofs.Rows.{sets-more, sets-front}
 use Rattle.dxr.proofs.DxrTable.{chunkThere, fit, stands, mainLength}
 use Rattle.dxr.proofs.Parts.{startsSay, part, part-equal, part-some, part-few, chunk-part, alone-words, alone-main}
 
@@ -61,9 +60,6 @@ module _ {W S : ℕ} {ss hs : List ℕ} {from c : ℕ} (h : ReachedTo W S ss hs 
 
     pub next-free : Free nextChunk
     next-free m = omega (arith, div-add-mod' (getD ss (from + 1) 0) (chunkSize W S))
-
-    pub next-start : getD ss from 0 ≤ nextChunk * chunkSize W S
-    next-start = omega (arith, h .start, mul-le-mul-right (chunkSize W S) next-later)
 
     -- its ranges end behind the next one
     pub next-ends : {p : Part} → IsPart W S nextChunk ss p → from ≤ p .first → from + 1 < p .end
@@ -179,30 +175,23 @@ module _ {W S : ℕ} {ss hs ms₀ ws₀ ms ws : List ℕ} {from used c : ℕ} (h
   words-length = rw (h .words, length-sets)
 
   -- the chunks up to chunk d have the hop of range `from`
-  pub written-skip : {d : ℕ} → c ≤ d → d ≤ 2 ^ S → Free (h .reached) d →
-      {part : List ℕ} → part ≡ replicate (length (midOf c (d - c) ms)) (getD hs from 0) →
-      WrittenTo W S ss hs ms₀ ws₀ (putMid c (d - c) ms part) ws from used d
-  written-skip {d} le up f {part} is =
-      let hops = replicate (d - c) (getD hs from 0) in
-      let put : putMid c (d - c) ms part ≡ sets ms c hops =
-      rw (is, mid-len c d ms (omega (arith, main-length))) (put-sets ms hops c (d - c) (length-replicate (d - c) (getD hs from 0)) (omega (arith, main-length))) in
-      let more : sets ms c hops ≡ sets ms₀ 0 (mainWords W S (ranges ss hs) d) =
-      rw (h .main, skip-main (h .reached) le f)
-      (sets-more ms₀ (mainWords W S (ranges ss hs) c) hops (sym (mainLength W S (ranges ss hs) c))) in
-      record {
-        reached = skip-reached (h .reached) le f up;
-        size = h .size;
-        room = h .room;
-        count = rw (skip-words (h .reached) le f) (h .count);
-        main = put ∙ more;
-        words = rw (skip-words (h .reached) le f) (h .words);
-      }
+  pub written-skip : {d : ℕ} → c ≤ d → d ≤ 2 ^ S → Free (h .reached) d → {ms′ : List ℕ} → ms′ ≡ sets ms c (replicate (d - c) (getD hs from 0)) →
+      WrittenTo W S ss hs ms₀ ws₀ ms′ ws from used d
+  written-skip {d} le up f is = record {
+    reached = skip-reached (h .reached) le f up;
+    size = h .size;
+    room = h .room;
+    count = rw (skip-words (h .reached) le f) (h .count);
+    main = is
+        ∙ rw (h .main, skip-main (h .reached) le f)
+        (sets-more ms₀ (mainWords W S (ranges ss hs) c) (replicate (d - c) (getD hs from 0)) (sym (mainLength W S (ranges ss hs) c)));
+    words = rw (skip-words (h .reached) le f) (h .words);
+  }
 
   -- behind the last range all have
-  pub written-rest : length ss ≤ from + 1 → {part : List ℕ} → part ≡ replicate (length (midOf c (length ms - c) ms)) (getD hs from 0) →
-      WrittenTo W S ss hs ms₀ ws₀ (putMid c (length ms - c) ms part) ws from used (2 ^ S)
-  written-rest l is =
-      rw main-length (written-skip (h .reached .upto) (omega arith) (λ m. absurd (omega arith)) (rw main-length at is))
+  pub written-rest : length ss ≤ from + 1 → {ms′ : List ℕ} → ms′ ≡ sets ms c (replicate (2 ^ S - c) (getD hs from 0)) →
+      WrittenTo W S ss hs ms₀ ws₀ ms′ ws from used (2 ^ S)
+  written-rest l is = written-skip (h .reached .upto) (omega arith) (λ m. absurd (omega arith)) is
 
   module _ (l : c < 2 ^ S) (split : Split W S) {p : Part} (is : IsPart W S c ss p) where
     pub written-room : HasRoom (c * chunkSize W S) (part is ss) (part is hs) ws used

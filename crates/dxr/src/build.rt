@@ -5,8 +5,9 @@
 // chunk in which a range starts to the next. A chunk's ranges begin with the last that starts at or
 // before its first address.
 ghost use mathlib.Core.Path.{_≡_};
-ghost use Prim.Native.Nat.{_*_, _≤_, _<_};
-ghost use lib.ListN.{length, getD, replicate};
+ghost use Prim.Native.Nat.{_-_, _*_, _≤_, _<_};
+ghost use lib.ListN.{length, getD, take, drop, replicate};
+ghost use lib.Seq.{sets};
 ghost use Rattle.route.specs.Shown.{counted};
 ghost use Rattle.ranges.specs.Ranges.{ranges};
 ghost use Rattle.ranges.specs.Builds.{overwritten};
@@ -53,6 +54,16 @@ fn part_at(starts: &[u32], from: usize, chunk: u32) -> Part
     }
 }
 
+// What a row has for these ranges.
+fn part_of(row: &[u32], p: Part) -> &[u32]
+    requires { ⌜ (p .first ≤ p .end) × (p .end ≤ length (now row)) ⌝ }
+    ensures { λ r. ⌜ now r ≡ take (p .end - p .first) (drop (p .first) (now (row .entry))) ⌝ }
+{
+    let first = p.first;
+    let end = p.end;
+    &row[first..end]
+}
+
 // How many range words the table of these ranges has.
 fn count_words(starts: &[u32], hops: &[u32]) -> usize
     requires { ⌜ Splittable 32 16 (now starts) (now hops) ⌝ }
@@ -63,21 +74,20 @@ fn count_words(starts: &[u32], hops: &[u32]) -> usize
     while from + 1 < starts.len() {
         let chunk = starts[from + 1] / 65536;
         let part = part_at(starts, from, chunk);
-        let first = part.first;
-        let end = part.end;
-        count += chunk::count(&starts[first..end], &hops[first..end], chunk * 65536);
-        from = end - 1;
+        count += chunk::count(part_of(starts, part), part_of(hops, part), chunk * 65536);
+        from = part.end - 1;
     }
     count
 }
 
-// One number in every cell.
-fn fill(part: &mut [u32], number: u32)
-    ensures { λ r. ⌜ now (part .exit) ≡ replicate (length (now (part .entry))) number ⌝ }
+// One number in the cells from `from` up to `to`.
+fn fill(row: &mut [u32], from: usize, to: usize, number: u32)
+    requires { ⌜ (from ≤ to) × (to ≤ length (now row)) ⌝ }
+    ensures { λ r. ⌜ now (row .exit) ≡ sets (now (row .entry)) from (replicate (to - from) number) ⌝ }
 {
-    let mut i = 0;
-    while i < part.len() {
-        part[i] = number;
+    let mut i = from;
+    while i < to {
+        row[i] = number;
         i += 1;
     }
 }
@@ -96,18 +106,22 @@ fn write_table(starts: &[u32], hops: &[u32], main: &mut [u32], words: &mut [u32]
     while from + 1 < starts.len() {
         let chunk = starts[from + 1] / 65536;
         let next = chunk as usize;
-        fill(&mut main[done..next], hops[from]);
+        fill(main, done, next, hops[from]);
         let part = part_at(starts, from, chunk);
-        let first = part.first;
-        let end = part.end;
         let base = chunk * 65536;
-        let stored = chunk::store(&starts[first..end], &hops[first..end], base, words, used);
+        let stored = chunk::store(
+            part_of(starts, part),
+            part_of(hops, part),
+            base,
+            words,
+            used,
+        );
         main[next] = stored.word;
         used = stored.used;
-        from = end - 1;
+        from = part.end - 1;
         done = next + 1;
     }
-    fill(&mut main[done..], hops[from]);
+    fill(main, done, MAIN_WORDS, hops[from]);
 }
 
 // The table of ranges of which one can be made: how many range words it has, or refusal 9.

@@ -63,7 +63,7 @@ fn all_short(starts: &[u32], hops: &[u32], base: u32) -> bool
 
 // How many range words a chunk has: none where it has one entry.
 pub(crate) fn count(starts: &[u32], hops: &[u32], base: u32) -> usize
-    requires { ⌜ (length (now starts) ≡ length (now hops)) × (0 < length (now starts)) × (length (now starts) < 65536) ⌝ }
+    requires { ⌜ (length (now starts) ≡ length (now hops)) × (0 < length (now starts)) × (length (now starts) < 16384) ⌝ }
     ensures { λ r. ⌜ r ≡ length (words (entriesFrom base (now (starts .entry)) (now (hops .entry)))) ⌝ }
 {
     let n = starts.len();

@@ -3,7 +3,6 @@ use borrow.Author.Needs.{needs}
 use Prim.Native.Nat.{_+_, _-_, _/_, _≤_, _<_}
 use mathlib.Core.Path.{sym, _∙_}
 use native.Mathlib.Omega.{arith}
-use borrow.Rule.Slice.PartMut.{putMid}
 use lib.ListN.{length, getD}
 use Rattle.dxr.proofs.DxrTable.{split-16}
 use Rattle.dxr.proofs.Parts.{part-lies}
@@ -36,12 +35,10 @@ there c = next-there (c .before .before .loop .inv .reached) split-16 (c .before
 
 -- the chunks before it are written
 here : (c : tie.After-fill Inv-loop μ-loop) →
-    let k = c .before .before .before in
-    let l = k .before .before in
+    let l = c .before .before .before .before .before in
     let a = l .before .before .before .before .before .args in
-    let d = getD (a .starts .now) (l .loop .from + 1) 0 / 65536 in
-    WrittenTo 32 16 (a .starts .now) (a .hops .now) (a .main .now) (a .words .now)
-    (putMid (l .loop .done) (d - l .loop .done) (l .loop .main) (c .fill .last .0)) (l .loop .words) (l .loop .from) (l .loop .used) d
+    WrittenTo 32 16 (a .starts .now) (a .hops .now) (a .main .now) (a .words .now) (c .fill .last .0) (l .loop .words) (l .loop .from) (l .loop .used)
+    (getD (a .starts .now) (l .loop .from + 1) 0 / 65536)
 here c =
     let k = c .before .before .before in
     let inv = k .before .before .loop .inv in
@@ -50,59 +47,33 @@ here c =
 cast-next : tie.Need-cast-next Inv-loop μ-loop
 cast-next c = let l = small c in search needs
 
-mul-fill : tie.Need-mul-fill Inv-loop μ-loop
-mul-fill c = let l = later c in let m = there c in let n = main-length (c .before .before .loop .inv) in search needs
-
-sub-fill : tie.Need-sub-fill Inv-loop μ-loop
-sub-fill c = let l = later c in let m = there c in let n = main-length (c .before .before .loop .inv) in search needs
-
-part-fill-start : tie.Need-part-fill-start Inv-loop μ-loop
-part-fill-start c = let l = later c in let m = there c in let n = main-length (c .before .before .loop .inv) in search needs
-
-part-fill-end : tie.Need-part-fill-end Inv-loop μ-loop
-part-fill-end c = let l = later c in let m = there c in let n = main-length (c .before .before .loop .inv) in search needs
-
 shared-slice-read-fill : tie.Need-shared-slice-read-fill Inv-loop μ-loop
 shared-slice-read-fill c = let r = c .before .before .before .before .loop .inv .reached in omega (arith, r .within, r .rows .equal)
 
+fill-requires : tie.Need-fill-requires Inv-loop μ-loop
+fill-requires c κs = let k = c .before .before in (later k, omega (arith, there k, main-length (k .before .before .loop .inv)))
+
 part-at-requires : tie.Need-part-at-requires Inv-loop μ-loop
-part-at-requires c κs = let r = here (c .before .before) .reached in (r .within, r .start, there (c .before .before .before .before .before))
+part-at-requires c κs = let f = c .before .before in (here f .reached .within, here f .reached .start, there (f .before .before .before))
 
 mul-base : tie.Need-mul-base Inv-loop μ-loop
 mul-base c = let l = small (c .before .before .before .before .before .before) in search needs
 
-mul-store : tie.Need-mul-store Inv-loop μ-loop
-mul-store c = let l = part-lies (c .part-at .ensures .0) (here (c .before .before .before) .reached .rows) in search needs
+part-of-requires : tie.Need-part-of-requires Inv-loop μ-loop
+part-of-requires c κs = let l = part-lies (c .part-at .ensures .0) (here (c .before .before .before) .reached .rows) in (l .0, l .1)
 
-sub-store : tie.Need-sub-store Inv-loop μ-loop
-sub-store c = let l = part-lies (c .part-at .ensures .0) (here (c .before .before .before) .reached .rows) in search needs
-
-part-store-start : tie.Need-part-store-start Inv-loop μ-loop
-part-store-start c = let l = part-lies (c .part-at .ensures .0) (here (c .before .before .before) .reached .rows) in search needs
-
-part-store-end : tie.Need-part-store-end Inv-loop μ-loop
-part-store-end c = let l = part-lies (c .part-at .ensures .0) (here (c .before .before .before) .reached .rows) in search needs
-
-mul-store-2 : tie.Need-mul-store-2 Inv-loop μ-loop
-mul-store-2 c = let l = part-lies (c .before .part-at .ensures .0) (here (c .before .before .before .before) .reached .rows) in search needs
-
-sub-store-2 : tie.Need-sub-store-2 Inv-loop μ-loop
-sub-store-2 c = let l = part-lies (c .before .part-at .ensures .0) (here (c .before .before .before .before) .reached .rows) in search needs
-
-part-store-start-2 : tie.Need-part-store-start-2 Inv-loop μ-loop
-part-store-start-2 c = let l = part-lies (c .before .part-at .ensures .0) (here (c .before .before .before .before) .reached .rows) in search needs
-
-part-store-end-2 : tie.Need-part-store-end-2 Inv-loop μ-loop
-part-store-end-2 c = let l = part-lies (c .before .part-at .ensures .0) (here (c .before .before .before .before) .reached .rows) in search needs
+part-of-requires-2 : tie.Need-part-of-requires-2 Inv-loop μ-loop
+part-of-requires-2 c κs = let l = part-lies (c .before .part-at .ensures .0) (here (c .before .before .before .before) .reached .rows) in (l .0, l .2)
 
 store-requires : tie.Need-store-requires Inv-loop μ-loop
 store-requires c κs =
     let p = c .before .before .before in
     let f = p .before .before .before in
-    written-room (here f) (there (f .before .before .before)) split-16 (p .part-at .ensures .0)
+    rw (c .before .before .part-of .ensures, c .before .part-of2 .ensures)
+    (written-room (here f) (there (f .before .before .before)) split-16 (p .part-at .ensures .0))
 
 mul-main : tie.Need-mul-main Inv-loop μ-loop
-mul-main c = record { fits = omega (arith, small (c .before .before .before .before .before .before .before .before .before .before .before .before)) }
+mul-main c = record { fits = omega (arith, there (c .before .before .before .before .before .before .before .before .before .before .before .before)) }
 
 slice-write-main : tie.Need-slice-write-main Inv-loop μ-loop
 slice-write-main c =
@@ -110,14 +81,14 @@ slice-write-main c =
     omega (arith, there (f .before .before .before), main-length (here f))
 
 sub-from : tie.Need-sub-from Inv-loop μ-loop
-sub-from c = let l = c .before .before .before .before .before .before .part-at .ensures .0 .some in search needs
+sub-from c = let l = c .before .before .before .before .before .before .before .part-at .ensures .0 .some in search needs
 
 add-done : tie.Need-add-done Inv-loop μ-loop
-add-done c = record { fits = omega (arith, small (c .before .before .before .before .before .before .before .before .before .before .before .before)) }
+add-done c = record { fits = omega (arith, there (c .before .before .before .before .before .before .before .before .before .before .before .before .before)) }
 
 loop-less : tie.Need-loop-less Inv-loop μ-loop
 loop-less c =
-    let p = c .before .before .before .before .before .before in
+    let p = c .before .before .before .before .before .before .before in
     let k = p .before .before .before .before .before .before in
     let more = k .before .loop-test .taken in
     let past = next-ends (k .before .before .loop .inv .reached) split-16 more (small k) (p .part-at .ensures .0) (p .part-at .ensures .1) in
@@ -125,32 +96,24 @@ loop-less c =
 
 loop-again : tie.Need-loop-again Inv-loop μ-loop
 loop-again c =
-    let p = c .before .before .before .before .before .before in
+    let s = c .before .before .before in
+    let p = s .before .before .before .before in
     let f = p .before .before .before in
-    written-turn (here f) (there (f .before .before .before)) split-16 (p .part-at .ensures .0) (c .before .before .store .ensures)
-
-mul-fill-3 : tie.Need-mul-fill-3 Inv-loop μ-loop
-mul-fill-3 c = let l = c .before .loop .inv .reached .upto in let m = main-length (c .before .loop .inv) in search needs
-
-sub-fill-2 : tie.Need-sub-fill-2 Inv-loop μ-loop
-sub-fill-2 c = let l = c .before .loop .inv .reached .upto in let m = main-length (c .before .loop .inv) in search needs
-
-part-fill-start-2 : tie.Need-part-fill-start-2 Inv-loop μ-loop
-part-fill-start-2 c = let l = c .before .loop .inv .reached .upto in let m = main-length (c .before .loop .inv) in search needs
-
-part-fill-end-2 : tie.Need-part-fill-end-2 Inv-loop μ-loop
-part-fill-end-2 c = let l = c .before .loop .inv .reached .upto in let m = main-length (c .before .loop .inv) in search needs
+    written-turn (here f) (there (f .before .before .before)) split-16 (p .part-at .ensures .0)
+    (rw (s .before .before .before .part-of .ensures, s .before .before .part-of2 .ensures) at (s .store .ensures))
 
 shared-slice-read-fill-2 : tie.Need-shared-slice-read-fill-2 Inv-loop μ-loop
 shared-slice-read-fill-2 c = let r = c .before .before .before .loop .inv .reached in omega (arith, r .within, r .rows .equal)
+
+fill-requires-2 : tie.Need-fill-requires-2 Inv-loop μ-loop
+fill-requires-2 c κs = let i = c .before .before .before .loop .inv in (i .reached .upto, omega (arith, main-length i))
 
 -- all chunks are written
 rest : (c : tie.After-slice-known5 Inv-loop μ-loop) →
     let l = c .before .before .before .before .before .before in
     let a = l .before .before .before .before .before .args in
     WrittenTo 32 16 (a .starts .now) (a .hops .now) (a .main .now) (a .words .now)
-    (putMid (l .loop .done) (length (l .loop .main) - l .loop .done) (l .loop .main) (c .before .before .fill2 .last .0))
-    (l .loop .words) (l .loop .from) (l .loop .used) 65536
+    (c .before .before .fill2 .last .0) (l .loop .words) (l .loop .from) (l .loop .used) 65536
 rest c =
     let e = c .before .before .before .before .before in
     written-rest (e .before .loop .inv) (e .loop-test .left) (c .before .before .fill2 .ensures)
@@ -169,8 +132,6 @@ write-table-spec =
     tie.close
     (tie.spec
     Inv-loop μ-loop loop-holds (λ c. search needs) (λ c. search needs) (λ c. search needs) (λ c. search needs) cast-next
-    mul-fill sub-fill part-fill-start part-fill-end (λ c. search needs) shared-slice-read-fill (λ c κs. search needs)
-    part-at-requires mul-base mul-store sub-store part-store-start part-store-end mul-store-2 sub-store-2 part-store-start-2
-    part-store-end-2 store-requires mul-main slice-write-main sub-from add-done loop-less loop-again mul-fill-3 sub-fill-2
-    part-fill-start-2 part-fill-end-2 (λ c. search needs) shared-slice-read-fill-2 (λ c κs. search needs) same-length
-    same-length-2 returns)
+    (λ c. search needs) shared-slice-read-fill fill-requires part-at-requires mul-base part-of-requires part-of-requires-2
+    store-requires mul-main slice-write-main sub-from add-done loop-less loop-again (λ c. search needs)
+    shared-slice-read-fill-2 fill-requires-2 same-length same-length-2 returns)
