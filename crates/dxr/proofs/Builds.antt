@@ -16,7 +16,8 @@ use Rattle.route.proofs.Tests.{answered, refuses}
 use Rattle.ranges.specs.Ranges.{maxRanges, Range, ranges, startsOf, hopsOf}
 use Rattle.ranges.specs.Builds.{overwritten, outputAfter, tableOf, rangesAnswer, IsBuilt as Made}
 use Rattle.ranges.proofs.Rooms.{built-roomy}
-use Rattle.ranges.proofs.RangesAgree.{rowsSay, rangesFew, rangesFine}
+use Rattle.ranges.proofs.Rows.{rowsSay}
+use Rattle.ranges.proofs.RangesAgree.{rangesFew, rangesFine}
 use Rattle.dxr.specs.Dxr.{tableWords, tableMain}
 use Rattle.dxr.specs.Builds.{IsBuilt}
 use Rattle.dxr.specs.Splits.{Split}

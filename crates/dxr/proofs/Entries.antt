@@ -1,4 +1,4 @@
--- The entries that a chunk's ranges make, and their words, by place.
+-- The entries that a chunk's ranges make, and their words, by place; whether all are short; what is stored of them.
 use Prim.Native.Nat.{ℕ, zero, suc, _+_, _-_, _*_, _%_, _≤_, _<_}
 use mathlib.Core.Path.{_≡_, refl, sym, _∙_, ap}
 use mathlib.Core.Bool.{Bool, true, false}
@@ -12,7 +12,7 @@ use Rattle.route.specs.Limits.{maxHop}
 use Rattle.route.proofs.Tests.{orders, and-parts, all-three}
 use Rattle.ranges.specs.Ranges.{Range, range, ranges}
 use Rattle.ranges.specs.Loops.{rangeAt}
-use Rattle.ranges.proofs.Scans.{ranges-at}
+use Rattle.ranges.proofs.Rows.{ranges-at, ranges-length, ranges-get}
 use Rattle.dxr.specs.Dxr.{fitsShort, allShort, longEntry, longWords, shortEntry, shortWords, encoded, words, pointer, mainWord}
 use Rattle.dxr.specs.Dxr.{partLength}
 use Rattle.dxr.specs.Loops.{entryFrom, entriesFrom, Fits, Encodable, HasRoom}
@@ -21,28 +21,15 @@ use Rattle.dxr.specs.declared.chunk.Stored.{Stored}
 use Rattle.dxr.proofs.ChunkWords.{encodedLength}
 use Rattle.dxr.proofs.Rows.{put-sets}
 
--- as many ranges as starts, in the same places
-rangesLength : (ss hs : List ℕ) → length ss ≡ length hs → length (ranges ss hs) ≡ length ss
-rangesLength [] hs e = refl
-rangesLength (s ∷ ss) [] e = absurd (omega arith)
-rangesLength (s ∷ ss) (h ∷ hs) e = ap suc (rangesLength ss hs (omega arith))
-
-rangesGet : (ss hs : List ℕ) (i : ℕ) → length ss ≡ length hs → getD (ranges ss hs) i (range 0 0) ≡ rangeAt ss hs i
-rangesGet [] [] i e = refl
-rangesGet [] (h ∷ hs) i e = absurd (omega arith)
-rangesGet (s ∷ ss) [] i e = absurd (omega arith)
-rangesGet (s ∷ ss) (h ∷ hs) zero e = refl
-rangesGet (s ∷ ss) (h ∷ hs) (suc i) e = rangesGet ss hs i (omega arith)
-
 module _ (b : ℕ) (ss hs : List ℕ) (e : length ss ≡ length hs) where
   pub entries-length : length (entriesFrom b ss hs) ≡ length ss
-  entries-length = length-map (ranges ss hs) (entryFrom b) ∙ rangesLength ss hs e
+  entries-length = length-map (ranges ss hs) (entryFrom b) ∙ ranges-length ss hs e
 
   -- behind the last entry is none
   pub entries-get : (i : ℕ) → getD (entriesFrom b ss hs) i (range 0 0) ≡ entryFrom b (rangeAt ss hs i)
   entries-get i =
       let z : 0 - b ≡ 0 = omega arith in
-      (rw z at (List·getD-map (entryFrom b) (ranges ss hs) i (range 0 0))) ∙ ap (entryFrom b) (rangesGet ss hs i e)
+      (rw z at (List·getD-map (entryFrom b) (ranges ss hs) i (range 0 0))) ∙ ap (entryFrom b) (ranges-get ss hs i e)
 
 -- what holds of all entries holds of each
 pub fits-at : (es : List Range) (i : ℕ) → Fits es → (getD es i (range 0 0) .start < 65536) × (getD es i (range 0 0) .hop ≤ maxHop)

@@ -10,6 +10,7 @@ use lib.ListN.{length, getD, take, drop, length-drop}
 use lib.Pow.{pow-pos}
 use lib.Seq.{length-take-le, getD-take, getD-drop}
 use Rattle.ranges.specs.Ranges.{Range, range, ranges, startsOf, hopAt}
+use Rattle.ranges.proofs.Rows.{startsSay, takeSays, dropSays}
 use Rattle.dxr.specs.Dxr.{chunkSize, inside, chunk, words, mainWord}
 use Rattle.dxr.specs.Loops.{LastAt, entryFrom, entriesFrom, Splittable}
 use Rattle.dxr.specs.Shown.{IsPart}
@@ -66,28 +67,6 @@ module _ (b l : ℕ) where
       let count : suc j + 1 - suc i ≡ j + 1 - i = omega arith in
       rw (le-leb (r .start) b le′, le-ltb b (r .start) le′, count)
       (partIs (r .hop) (suc (r .start)) rs i j (s .1) m′ (lastShift r rs j k) (omega arith))
-
--- rows of ranges: their starts, and a part of both
-pub startsSay : (ss hs : List ℕ) → length ss ≡ length hs → startsOf (ranges ss hs) ≡ ss
-startsSay [] hs e = refl
-startsSay (s ∷ ss) [] e = absurd (omega arith)
-startsSay (s ∷ ss) (h ∷ hs) e = ap (λ l. s ∷ l) (startsSay ss hs (omega arith))
-
-takeSays : (n : ℕ) (ss hs : List ℕ) → ranges (take n ss) (take n hs) ≡ take n (ranges ss hs)
-takeSays zero ss hs = refl
-takeSays (suc n) [] hs = refl
-takeSays (suc n) (s ∷ ss) [] = refl
-takeSays (suc n) (s ∷ ss) (h ∷ hs) = ap (λ l. range s h ∷ l) (takeSays n ss hs)
-
-noHops : (ss : List ℕ) → ranges ss [] ≡ []
-noHops [] = refl
-noHops (s ∷ ss) = refl
-
-dropSays : (n : ℕ) (ss hs : List ℕ) → ranges (drop n ss) (drop n hs) ≡ drop n (ranges ss hs)
-dropSays zero ss hs = refl
-dropSays (suc n) [] hs = refl
-dropSays (suc n) (s ∷ ss) [] = noHops (drop n ss)
-dropSays (suc n) (s ∷ ss) (h ∷ hs) = dropSays n ss hs
 
 -- the part of both rows that makes the entries of chunk c
 module _ {W S c : ℕ} {ss : List ℕ} {p : Part} (is : IsPart W S c ss p) where

@@ -13,6 +13,7 @@ use lib.Seq.{length-sets, sets}
 use Rattle.route.proofs.Tests.{orders, byTest}
 use Rattle.ranges.specs.Ranges.{Range, ranges, startsOf}
 use Rattle.ranges.specs.Builds.{overwritten}
+use Rattle.ranges.proofs.Rows.{startsSay}
 use Rattle.dxr.specs.Dxr.{chunkSize, chunk, words, mainWord, allWords, mainWords, tableWords, tableMain}
 use Rattle.dxr.specs.Splits.{Split}
 use Rattle.dxr.specs.Loops.{entriesFrom, HasRoom, Splittable}
@@ -22,7 +23,7 @@ use Rattle.dxr.specs.declared.chunk.Stored.{Stored}
 use Rattle.dxr.proofs.Rising.{fine-rises}
 use Rattle.dxr.proofs.Rows.{sets-more, sets-front}
 use Rattle.dxr.proofs.DxrTable.{chunkThere, fit, stands, mainLength}
-use Rattle.dxr.proofs.Parts.{startsSay, part, part-equal, part-some, part-few, chunk-part, alone-words, alone-main}
+use Rattle.dxr.proofs.Parts.{part, part-equal, part-some, part-few, chunk-part, alone-words, alone-main}
 
 -- chunk c is next: range `from` starts at or before its first address, and those behind it start there or later
 pub record ReachedTo (W S : ℕ) (ss hs : List ℕ) (from c : ℕ) : Type 0 where

@@ -1,7 +1,8 @@
--- Where prefixes start and end, the merged ranges of a set, and the ranges' part of demand 2.
+-- Where prefixes start and end, rows of ranges, the merged ranges of a set, and the ranges' part of demand 2.
 pub mod Spans
 pub mod Boundaries
 pub mod Says
+pub mod Rows
 pub mod MergedRanges
 pub mod RangesAgree
 -- The build: sorting, the sweep over routes in order, words, and that all of it makes the merged ranges.

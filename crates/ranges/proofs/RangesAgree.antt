@@ -1,7 +1,7 @@
 -- The merged ranges of a set say its answer: they keep the rules, are few, are found by a lookup, and go by the set alone.
 use Prim.Native.Nat.{ℕ, _+_, _*_, _-_, _^_, _≤_, _<_}
 use mathlib.Core.Path.{_≡_, refl, sym, _∙_, ap, subst}
-use mathlib.Core.List.{List, [], _∷_, Memᴰ·map, Memᴰ·of-map}
+use mathlib.Core.List.{List, Memᴰ·map, Memᴰ·of-map}
 use lib.ListN.{length, length-map}
 use lib.Pow.{pow-pos}
 use native.Mathlib.Omega.{arith}
@@ -13,15 +13,11 @@ use Rattle.route.specs.RightHop.{_∈_}
 use Rattle.route.specs.RowsOfSet.{Valid}
 use Rattle.route.proofs.LongestMatch.{Found, finds, SameSet, sameAnswer}
 use Rattle.route.proofs.RouteSet.{RouteSet}
-use Rattle.ranges.specs.Ranges.{maxRanges, Range, boundaries, rangesOf, ranges, tableFault, hopAt, rangeLookup, startsOf, hopsOf}
+use Rattle.ranges.specs.Ranges.{maxRanges, Range, boundaries, rangesOf, tableFault, hopAt, rangeLookup, startsOf, hopsOf}
+use Rattle.ranges.proofs.Rows.{rowsSay}
 use Rattle.ranges.proofs.Boundaries.{Placed, boundariesRise, boundariesFew, boundariesFewer, steady}
 use Rattle.ranges.proofs.MergedRanges.{mergedFew, mergedSay}
 use Rattle.ranges.proofs.Says.{Table, table-hop, table-fine, table-once, table-same, table-each, table-looked-up}
-
--- the rows of starts and hops say the ranges
-pub rowsSay : (t : List Range) → ranges (startsOf t) (hopsOf t) ≡ t
-rowsSay [] = refl
-rowsSay (r ∷ rs) = ap (λ l. r ∷ l) (rowsSay rs)
 
 -- a lookup in the rows of a table that keeps the rules
 lookedUp : (t : List Range) (q : ℕ) → length t ≤ maxRanges → tableFault t ≡ fine →

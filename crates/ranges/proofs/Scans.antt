@@ -4,20 +4,14 @@ use mathlib.Core.Path.{_≡_, refl, sym, _∙_}
 use mathlib.Core.Bool.{true, false, cond, not}
 use mathlib.Core.List.{List, [], _∷_}
 use native.Mathlib.Omega.{arith}
-use native.Mathlib.Numerals.{add-one}
 use borrow.Author.Tests.{eqb-true, eq-eqb, leb-false, le-leb, lt-leb, not-false}
 use lib.Dec.{leb, eqb}
 use lib.ListN.{length, drop, drop-of-length-le}
-use lib.Seq.{drop-cons}
 use Rattle.route.specs.Refusals.{fine, Answer, value, refused, unlessFault, imageRefusal}
 use Rattle.route.proofs.Tests.{byTest, or-parts}
 use Rattle.ranges.specs.Ranges.{maxRanges, Range, ranges, breaks, firstBreaks, rangesFault, sizeFault, hopAt, rangeLookup}
 use Rattle.ranges.specs.Loops.{rangeAt}
-
--- the ranges from range i on begin with range i
-pub ranges-at : (ss hs : List ℕ) (i : ℕ) → length ss ≡ length hs → i < length ss →
-    ranges (drop i ss) (drop i hs) ≡ rangeAt ss hs i ∷ ranges (drop (i + 1) ss) (drop (i + 1) hs)
-ranges-at ss hs i e l = let m : i < length hs = omega arith in rw (add-one, drop-cons ss i 0, drop-cons hs i 0)
+use Rattle.ranges.proofs.Rows.{ranges-at}
 
 -- refusal 7, or else the hop, of ranges behind the range p
 abbrev pub answerBehind : ℕ → Range → ℕ → List Range → ℕ → Answer
