@@ -44,13 +44,13 @@ extern "C" {
 /* Refusals. */
 enum {
     HAWKMORTAR_LENGTH = 1,   /* a length over 32 */
-    HAWKMORTAR_ADDRESS = 2,  /* an address that is not a multiple of 2^(32-n) */
+    HAWKMORTAR_ADDRESS = 2,  /* an address that is not a multiple of 2^(32-n); in a record, 2^n or more */
     HAWKMORTAR_HOP = 3,      /* a hop of 0 or over 65,535 */
     HAWKMORTAR_TWICE = 4,    /* an earlier entry of the list has this prefix */
     HAWKMORTAR_FULL = 5,     /* an absent prefix is to be set and no slot is free */
     HAWKMORTAR_ABSENT = 6,   /* the prefix to be removed is not there */
     HAWKMORTAR_IMAGE = 7,    /* a rule of the slots, the ranges or the chunk is broken */
-    HAWKMORTAR_SIZE = 8,     /* rows of unequal length, or a size outside its limits */
+    HAWKMORTAR_SIZE = 8,     /* rows of unequal length, a size outside its limits, or a place past the input */
     HAWKMORTAR_ROOM = 9,     /* an output is shorter than the answer needs */
     HAWKMORTAR_PLAN = 10,    /* a plan too short, or a write that cannot be made */
     HAWKMORTAR_NUMBER = 11,  /* a number longer than needed, or over 2^32 - 1 */
@@ -213,6 +213,28 @@ struct hawkmortar_outcome hawkmortar_dxr_lookup(
     const uint32_t *main, size_t main_len,
     const uint32_t *words, size_t words_len,
     uint32_t q);
+
+/*
+ * Update records: bytes that say which prefixes are set and removed. A record is up to four numbers: its kind,
+ * 0 for a removal and 1 for a set; the prefix's length n; its address divided by 2^(32-n); and for a set the
+ * next hop. A number is at most 2^32 - 1 and stands in groups of seven bits, one to a byte, the low group first,
+ * with the top bit set on all bytes but the last. Its form is the shortest, so no byte behind its first is 0.
+ */
+
+/*
+ * Reads the record whose first byte has the index at. The pointer record is to four numbers, no part of bytes:
+ * kind, length, address and next hop, the hop 0 for a removal.
+ * Value: the place behind the record, where the next one starts, and always more than at; or at itself where that
+ * is bytes_len, the end of the input, which leaves record as it was.
+ * Refusals: 8 for a place past the input; then number by number, in the record's order: 11 for a number that is
+ * longer than needed or over 2^32 - 1, at once where a fifth byte is over 15; 12 where the bytes end inside the
+ * record; 13 for a kind over 1, 1 for a length over 32, 2 for an address, divided as above, of 2^n or more, 3 for
+ * a hop of 0 or over 65,535. The place is 0 of 8, bytes_len of 12, else the first byte of the number at fault.
+ */
+struct hawkmortar_outcome hawkmortar_record_at(
+    const uint8_t *bytes, size_t bytes_len,
+    size_t at,
+    uint32_t *record);
 
 #ifdef __cplusplus
 }

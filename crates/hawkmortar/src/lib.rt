@@ -13,7 +13,12 @@ ghost use Rattle.ranges.specs.Ranges.{rangeLookup};
 ghost use Rattle.ranges.specs.Builds.{rangesAnswer, builtStarts, builtHops};
 ghost use Rattle.dxr.specs.Dxr.{dxrLookup};
 ghost use Rattle.dxr.specs.Builds.{dxrAnswer, builtMain, builtWords};
+ghost use Rattle.records.specs.Records.{recordAt};
+ghost use Rattle.records.specs.Shown.{updateOf};
+ghost use Rattle.hawkmortar.specs.Records.{placed, cells, cellsAfter};
 ghost use lib.ListN;
+use records::Record;
+use records::Step;
 use route::Counted;
 use route::Found;
 use route::Hop;
@@ -156,6 +161,37 @@ pub extern "C" fn hawkmortar_dxr_lookup(main: &[u32], words: &[u32], q: u32) -> 
     ensures { λ r. ⌜ r ≡ outcome (dxrLookup 32 16 (now (main .entry)) (now (words .entry)) q) ⌝ }
 {
     of_found(dxr::lookup::lookup(main, words, q))
+}
+
+// What stands at a place of some bytes: a record, whose kind, length, address and hop are put into
+// four cells; the value is the next place, or the place itself at the end of the bytes.
+#[no_mangle]
+pub extern "C" fn hawkmortar_record_at(bytes: &[u8], at: usize, record: &mut [u32; 4]) -> Outcome
+    ensures { λ r. ⌜ r ≡ outcome (placed at (recordAt 32 (now (bytes .entry)) at)) ⌝ }
+    ensures { λ r. ⌜ now («record» .exit) ≡ cellsAfter (recordAt 32 (now (bytes .entry)) at) (now («record» .entry)) ⌝ }
+{
+    match records::reader::read(bytes, at) {
+        Step::Refused(r) => refused(r),
+        Step::End => accepted(at as u64),
+        Step::Next(r, next) => {
+            put_record(r, record);
+            accepted(next as u64)
+        }
+    }
+}
+
+// A record in four cells.
+fn put_record(r: Record, row: &mut [u32; 4])
+    ensures { λ _. ⌜ now (row .exit) ≡ cells (updateOf r) ⌝ }
+{
+    match r {
+        Record::Remove(address, length) => {
+            *row = [0, length.0, address, 0];
+        }
+        Record::Set(p) => {
+            *row = [1, p.length.0, p.address, p.hop.0];
+        }
+    }
 }
 
 // An accepted call's value.

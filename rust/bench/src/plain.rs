@@ -2,6 +2,7 @@
 
 pub mod dxr;
 pub mod ranges;
+pub mod records;
 pub mod slots;
 
 /// A refusal's number and place.

@@ -4,7 +4,8 @@
  * answer for 10.20.4.10 after each number of its writes, and the image. Then case h, ranges: the outcome of a build
  * with a cell of room too few, that of a build with room for all, the ranges, and each answer on a line. Then cases i
  * and j, the DXR table with and without the /32: the outcome of the build, the main word of chunk 2580, its range
- * words, which are all there are, and each answer on a line.
+ * words, which are all there are, and each answer on a line. Then the report's records: the outcome of each call up
+ * to the end of the input, of one past it and of one on cut bytes, with the four numbers after it.
  */
 #include <inttypes.h>
 #include <stdio.h>
@@ -27,6 +28,8 @@ static uint32_t range_words[HAWKMORTAR_MAX_RANGE_WORDS];
 
 static const uint32_t lengths[ENTRIES] = {8, 16, 24, 32, 0};
 static const uint32_t hops[ENTRIES] = {1, 2, 3, 2, 7};
+
+static const uint8_t bytes[12] = {0x01, 0x08, 0x0a, 0x01, 0x01, 0x10, 0x94, 0x14, 0x02, 0x00, 0x08, 0x0a};
 
 static uint32_t ip(uint32_t a, uint32_t b, uint32_t c, uint32_t d)
 {
@@ -84,6 +87,30 @@ static int show_dxr(const uint32_t *addresses, const uint32_t *ns, const uint32_
     return 0;
 }
 
+static struct hawkmortar_outcome show_record(size_t bytes_len, size_t at, uint32_t *record)
+{
+    struct hawkmortar_outcome read = hawkmortar_record_at(bytes, bytes_len, at, record);
+    show(read);
+    printf("%" PRIu32 " %" PRIu32 " %08" PRIx32 " %" PRIu32 "\n", record[0], record[1], record[2], record[3]);
+    return read;
+}
+
+static int show_records(void)
+{
+    uint32_t record[4] = {0, 0, 0, 0};
+    size_t at = 0, before;
+    do {
+        struct hawkmortar_outcome read = show_record(sizeof bytes, at, record);
+        if (read.refusal != 0)
+            return 1;
+        before = at;
+        at = (size_t)read.value;
+    } while (at != before);
+    show_record(sizeof bytes, sizeof bytes + 1, record);
+    show_record(sizeof bytes - 4, 4, record);
+    return 0;
+}
+
 int main(void)
 {
     const uint32_t addresses[ENTRIES] = {ip(10, 0, 0, 0), ip(10, 20, 0, 0), ip(10, 20, 4, 0), ip(10, 20, 4, 9), 0};
@@ -127,5 +154,7 @@ int main(void)
     };
     if (show_dxr(addresses, lengths, hops, ENTRIES, keys) != 0)
         return 1;
-    return show_dxr(others[0], others[1], others[2], ENTRIES - 1, keys);
+    if (show_dxr(others[0], others[1], others[2], ENTRIES - 1, keys) != 0)
+        return 1;
+    return show_records();
 }

@@ -138,4 +138,6 @@ extern "C" {
         words_len: usize,
         q: u32,
     ) -> Outcome;
+
+    pub fn hawkmortar_record_at(bytes: *const u8, bytes_len: usize, at: usize, record: *mut u32) -> Outcome;
 }

@@ -22,7 +22,8 @@
 //!
 //! A [`Table`] keeps routes in slots and plans each update as a row of single writes; [`slots`] has the same calls over lent
 //! rows. A [`RangeTable`] has the routes of a list merged into ranges of addresses; [`ranges`] has its calls over lent rows. A
-//! [`DxrTable`] has these ranges by chunks of addresses, so that a lookup looks at one chunk; [`dxr`] has its calls.
+//! [`DxrTable`] has these ranges by chunks of addresses, so that a lookup looks at one chunk; [`dxr`] has its calls. Updates
+//! travel as bytes: [`Records`] reads them record by record, and [`records`] has the call that reads one.
 #![warn(missing_docs)]
 
 pub mod dxr;
@@ -32,6 +33,7 @@ pub mod list;
 mod prefix;
 pub mod range_table;
 pub mod ranges;
+pub mod records;
 mod refusal;
 pub mod slots;
 pub mod table;
@@ -39,6 +41,7 @@ pub mod table;
 pub use dxr_table::DxrTable;
 pub use prefix::Prefix;
 pub use range_table::{Range, RangeTable};
+pub use records::{Record, Records};
 pub use refusal::Refusal;
 pub use table::{Entry, Plan, Table, Write};
 

@@ -28,6 +28,11 @@ impl Prefix {
         }
     }
 
+    /// The prefix of a record that was accepted.
+    pub(crate) const fn of_record(address: u32, length: u32) -> Self {
+        Prefix { address, length }
+    }
+
     /// Its first address.
     pub const fn address(self) -> Ipv4Addr {
         Ipv4Addr::from_bits(self.address)

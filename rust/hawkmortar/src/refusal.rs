@@ -8,7 +8,7 @@ use std::fmt;
 pub enum Refusal {
     /// 1: a length over 32.
     Length(usize),
-    /// 2: an address that is not a multiple of 2^(32-n).
+    /// 2: an address that is not a multiple of 2^(32-n); in a record, 2^n or more.
     Address(usize),
     /// 3: a hop of 0 or over 65,535.
     Hop(usize),
@@ -20,7 +20,7 @@ pub enum Refusal {
     Absent,
     /// 7: a rule of the slots, the ranges or the chunk is broken.
     Image(usize),
-    /// 8: rows of unequal length, or a size outside its limits.
+    /// 8: rows of unequal length, a size outside its limits, or a place past the input.
     Size,
     /// 9: an output is shorter than the answer needs.
     Room,
@@ -95,13 +95,13 @@ impl fmt::Display for Refusal {
     fn fmt(&self, f: &mut fmt::Formatter<'_>) -> fmt::Result {
         let what = match self {
             Refusal::Length(_) => "length over 32",
-            Refusal::Address(_) => "address not a multiple of the prefix's span",
+            Refusal::Address(_) => "address not a multiple of the prefix's span, or too large",
             Refusal::Hop(_) => "hop 0 or over 65,535",
             Refusal::Twice(_) => "prefix stands earlier in the list",
             Refusal::Full => "no slot is free",
             Refusal::Absent => "prefix is not there",
             Refusal::Image(_) => "a rule of the table is broken",
-            Refusal::Size => "rows of unequal length, or a size outside its limits",
+            Refusal::Size => "rows of unequal length, a size outside its limits, or a place past the input",
             Refusal::Room => "output too short",
             Refusal::Plan(_) => "plan too short, or a write that cannot be made",
             Refusal::Number(_) => "number longer than needed, or too large",

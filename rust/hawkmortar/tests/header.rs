@@ -60,6 +60,22 @@ const CHUNK_WITHOUT_32: &str = "\
 84017152
 ";
 
+/// The outcome of each call and the four numbers after it. The fourth is the end of the input, the last two are refused.
+const RECORDS: &str = "\
+0 4
+1 8 0a000000 1
+0 9
+1 16 0a140000 2
+0 12
+0 8 0a000000 0
+0 12
+0 8 0a000000 0
+8 0
+0 8 0a000000 0
+12 8
+0 8 0a000000 0
+";
+
 #[test]
 fn a_c_program_over_the_header_answers_the_board() {
     let here = Path::new(env!("CARGO_MANIFEST_DIR"));
@@ -95,6 +111,6 @@ fn a_c_program_over_the_header_answers_the_board() {
     let dxr = format!("{CHUNK}{answers}{CHUNK_WITHOUT_32}{answers_without_32}");
     assert_eq!(
         String::from_utf8_lossy(&ran.stdout),
-        format!("{answers}{twice}{slots}{ranges}{dxr}")
+        format!("{answers}{twice}{slots}{ranges}{dxr}{RECORDS}")
     );
 }

@@ -7,6 +7,7 @@ pub mod dxr;
 pub mod list;
 pub mod random;
 pub mod ranges;
+pub mod records;
 pub mod slots;
 
 /// A refusal's number and place.

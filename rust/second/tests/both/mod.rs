@@ -1,6 +1,6 @@
 //! The calls, each asked of both programs: the answers are compared, and so is every cell that was lent. A refused call has left
 //! all of them as they were, an accepted one has changed exactly what the second program says. The slot calls are here, those of
-//! lists, ranges and DXR tables in their own modules.
+//! lists, ranges, DXR tables and records in their own modules.
 
 // a test file needs only a part
 #![allow(dead_code)]
@@ -8,6 +8,7 @@
 pub mod dxr;
 pub mod list;
 pub mod ranges;
+pub mod records;
 
 use hawkmortar::{slots as proved, NextHop, Refusal};
 use second::book::Book;

@@ -1,0 +1,4 @@
+-- What the walks of the reader's functions share.
+mod Typed
+mod Call
+mod RecordAt
