@@ -51,17 +51,34 @@ pub not-only : (bs : List ℕ) (at : ℕ) → at < length bs → 128 ≤ getD bs
 not-only bs at h l = rw (first-byte bs at h, le-ltb _ 128 l)
 
 -- a fifth byte that is not bad has four bits
-fifth : (k b : ℕ) → badByte k b ≡ false → k ≡ 4 → b ≤ 15
+pub fifth : (k b : ℕ) → badByte k b ≡ false → k ≡ 4 → b ≤ 15
 fifth k b e h = omega (orders, rw (eq-eqb k 4 h) at (or-parts (eqb k 4 && ltb 15 b) (ltb 0 k && eqb b 0) e .0))
 
+-- a byte behind the first that is not bad is not 0
+pub not-zero : (k b : ℕ) → badByte k b ≡ false → 1 ≤ k → 1 ≤ b
+not-zero k b e h = omega (orders, rw (lt-ltb 0 k h) at (or-parts (eqb k 4 && ltb 15 b) (ltb 0 k && eqb b 0) e .1))
+
 -- a byte that is not the last is bad just where it is the fifth
-more-bad : (k b : ℕ) → 128 ≤ b → badByte k b ≡ eqb k 4
+pub more-bad : (k b : ℕ) → 128 ≤ b → badByte k b ≡ eqb k 4
 more-bad k b h = rw (lt-ltb 15 b (omega arith), ne-eqb b 0 (λ e. omega arith)) (whole (eqb k 4) (ltb 0 k))
   where
     whole : (s t : Bool) → (s && true) || (t && false) ≡ s
     whole true t = refl
     whole false true = refl
     whole false false = refl
+
+-- a group of weight w, of seven bits or of four in a fifth byte, and w more take no value past 2^32
+pub group-most : (k w g : ℕ) → k ≤ 4 → w ≡ 128 ^ k → g < 128 → (k ≡ 4 → g ≤ 15) → g * w + w ≤ 4294967296
+group-most k w g few weight l top =
+    byTest (ltb k 4)
+    (λ t.
+    let early : k ≤ 3 = omega orders in
+    let least : g ≤ 127 = omega arith in
+    omega (arith, mul-le-mul-right w least, pow-le-pow-right {n = 128} (omega arith) early))
+    (λ t.
+    let five : k ≡ 4 = omega orders in
+    let heaviest : w ≡ 128 ^ 4 = rw five at weight in
+    omega (arith, mul-le-mul-right w (top five)))
 
 -- k bytes of the number at `at`, all but its last, have been read: their value is v, and the next group's weight w
 pub record Partly (bs : List ℕ) (at first v w k : ℕ) : Type 0 where
@@ -87,18 +104,9 @@ module _ {bs : List ℕ} {at first v w k : ℕ} (p : Partly bs at first v w k) (
   pub bad-read : badByte k b ≡ true → noNumber numberRefusal at ≡ numberIn at 1 first (drop (at + 1) bs)
   bad-read e = (rw (byte-at bs at k v h, e) at (p .left))
 
-  -- the value with one more group of seven bits, or of four in a fifth byte
+  -- the value with one more group
   value-fits : (g : ℕ) → g < 128 → (k ≡ 4 → g ≤ 15) → v + g * w < 4294967296
-  value-fits g l top =
-      byTest (ltb k 4)
-      (λ t.
-      let few : k ≤ 3 = omega orders in
-      let least : g ≤ 127 = omega arith in
-      omega (arith, p .below, p .weight, mul-le-mul-right w least, pow-le-pow-right {n = 128} (omega arith) few))
-      (λ t.
-      let five : k ≡ 4 = omega (orders, p .few) in
-      let heaviest : w ≡ 128 ^ 4 = rw five at (p .weight) in
-      omega (arith, p .below, heaviest, mul-le-mul-right w (top five)))
+  value-fits g l top = omega (arith, p .below, group-most k w g (p .few) (p .weight) l top)
 
   -- a last byte that is not bad gives it
   module _ (l : b < 128) (e : badByte k b ≡ false) where
@@ -143,13 +151,10 @@ long-number first k v (b ∷ bs) {x} {next} h e =
     (λ good.
     byTest (ltb b 128)
     (λ last.
-    let some : 1 ≤ b = not-zero good in
+    let some : 1 ≤ b = not-zero k b good h in
     let value : v + b * 128 ^ k ≡ x = cc (rw (good, last) at e) in
     omega (arith, mul-le-mul-right (128 ^ k) some, pow-le-pow-right {n = 128} (omega arith) h))
     (λ more. long-number first (k + 1) (v + (b - 128) * 128 ^ k) bs (omega arith) (rw (good, more) at e)))
-  where
-    not-zero : badByte k b ≡ false → 1 ≤ b
-    not-zero good = omega (orders, rw (lt-ltb 0 k h) at (or-parts (eqb k 4 && ltb 15 b) (ltb 0 k && eqb b 0) good .1))
 
 -- a number that is to be at most a limit below 128
 module _ (bs : List ℕ) (at most n p : ℕ) where

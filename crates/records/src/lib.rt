@@ -2,7 +2,7 @@
 //
 // Any bytes get an answer: a record with the next place, the end of the input, or a refusal with its
 // number and place. A record's next place lies behind the place that was asked for and within the
-// input (proofs/Ahead), so a loop from place to place ends.
+// input (proofs/Places), so a loop from place to place ends.
 pub mod numbers;
 pub mod reader;
 

@@ -3,7 +3,7 @@ use mathlib.Core.Path.{sym, _∙_, ap}
 use borrow.Author.Needs.{needs}
 use borrow.Author.Tests.{leb-false, ne-eqb}
 use Rattle.route.specs.Shown.{verdictOf}
-use Rattle.route.proofs.Tests.{tests, passed}
+use Rattle.route.proofs.Tests.{passed}
 use Rattle.records.proofs.address_from.Statement.{statement}
 use Rattle.records.proofs.address_from.Tie as tie
 
