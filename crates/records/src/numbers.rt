@@ -32,7 +32,7 @@ fn is_bad(k: usize, b: u32) -> bool
 }
 
 // The number at a place of the bytes: refusal 11 at its first byte, or 12 where the bytes end in it.
-pub fn number_at(bytes: &[u8], at: usize) -> Number
+pub(crate) fn number_at(bytes: &[u8], at: usize) -> Number
     ensures { λ r. ⌜ readingOf r ≡ numberAt (now (bytes .entry)) at ⌝ }
 {
     if bytes.len() <= at {
