@@ -14,6 +14,7 @@ use Rattle.route.specs.Refusals.{Verdict, faultIf, numberRefusal, cutRefusal}
 use Rattle.route.proofs.Tests.{orders, byTest, or-parts}
 use Rattle.records.specs.Records.{Reading, number, noNumber, badByte, numberIn, numberAt, judged, checkedAt}
 
+-- no byte stands past the last
 pub drop-past : (bs : List ℕ) (n : ℕ) → length bs ≤ n → drop n bs ≡ []
 drop-past [] n h = drop-nil n
 drop-past (b ∷ bs) (suc n) h = drop-past bs n (omega arith)
@@ -41,6 +42,7 @@ first-byte bs at h =
     let next : at + 1 ≡ suc at = omega arith in
     rw (drop-cons bs at 0 h, one (getD bs at 0), one (getD bs at 0 - 128), here, next)
 
+-- a number where there is no byte, in one byte, and in more
 pub no-byte : (bs : List ℕ) (at : ℕ) → length bs ≤ at → noNumber cutRefusal at ≡ numberAt bs at
 no-byte bs at h = rw (drop-past bs at h, add-zero at)
 
@@ -52,7 +54,7 @@ not-only bs at h l = rw (first-byte bs at h, le-ltb _ 128 l)
 
 -- a fifth byte that is not bad has four bits
 pub fifth : (k b : ℕ) → badByte k b ≡ false → k ≡ 4 → b ≤ 15
-fifth k b e h = omega (orders, rw (eq-eqb k 4 h) at (or-parts (eqb k 4 && ltb 15 b) (ltb 0 k && eqb b 0) e .0))
+fifth k b e h = omega (orders, rw (eq-eqb k 4 h) at (or-parts (eqb k 4 && ltb 15 b) _ e .0))
 
 -- a byte behind the first that is not bad is not 0
 pub not-zero : (k b : ℕ) → badByte k b ≡ false → 1 ≤ k → 1 ≤ b
@@ -81,22 +83,23 @@ group-most k w g few weight l top =
     omega (arith, mul-le-mul-right w (top five)))
 
 -- k bytes of the number at `at`, all but its last, have been read: their value is v, and the next group's weight w
-pub record Partly (bs : List ℕ) (at first v w k : ℕ) : Type 0 where
+pub record BytesRead (bs : List ℕ) (at first v w k : ℕ) : Type 0 where
   pub few : k ≤ 4
   pub within : at + k ≤ length bs
   pub weight : w ≡ 128 ^ k
   pub below : v < w
   pub left : numberIn at k v (drop (at + k) bs) ≡ numberIn at 1 first (drop (at + 1) bs)
 
-pub one-read : {bs : List ℕ} {at first : ℕ} → at < length bs → first < 128 → Partly bs at first first 128 1
+-- the first byte has been read
+pub one-read : {bs : List ℕ} {at first : ℕ} → at < length bs → first < 128 → BytesRead bs at first first 128 1
 one-read h l = record { few = omega arith; within = omega arith; weight = refl; below = l; left = refl }
 
 -- bytes that end inside the number
-pub cut-read : {bs : List ℕ} {at first v w k : ℕ} → Partly bs at first v w k → length bs ≤ at + k
+pub cut-read : {bs : List ℕ} {at first v w k : ℕ} → BytesRead bs at first v w k → length bs ≤ at + k
     → noNumber cutRefusal (at + k) ≡ numberIn at 1 first (drop (at + 1) bs)
 cut-read {bs} {at} {first} {v} {w} {k} p l = rw (drop-past bs (at + k) l) at (p .left)
 
-module _ {bs : List ℕ} {at first v w k : ℕ} (p : Partly bs at first v w k) (h : at + k < length bs) where
+module _ {bs : List ℕ} {at first v w k : ℕ} (p : BytesRead bs at first v w k) (h : at + k < length bs) where
   abbrev b : ℕ
   b = getD bs (at + k) 0
 
@@ -131,7 +134,7 @@ module _ {bs : List ℕ} {at first v w k : ℕ} (p : Partly bs at first v w k) (
       pub weight-fits : w * 128 < 4294967296
       weight-fits = omega (arith, p .weight, pow-le-pow-right {n = 128} (omega arith) early)
 
-      pub group-read : Partly bs at first (v + (b - 128) * w) (w * 128) (k + 1)
+      pub group-read : BytesRead bs at first (v + (b - 128) * w) (w * 128) (k + 1)
       group-read =
           let least : b - 128 ≤ 127 = omega arith in
           record {

@@ -5,12 +5,13 @@ use mathlib.Core.Bool.{cond}
 use mathlib.Core.List.{List, _++_}
 use lib.Dec.{ltb, eqb}
 use lib.ListN.{length, take, drop, getD}
-use lib.Pow.{pow-mono, shl-lt, shl-shr, shr-lt}
+use lib.Pow.{pow-mono, shl-shr, shr-lt}
 use native.Mathlib.Nat.{div-add-mod', mul-mod-left}
 use native.Mathlib.Omega.{arith}
 use borrow.Author.Tests.{eqb-true, ne-eqb, ltb-false, le-ltb, leb-false, lt-leb}
 use Rattle.route.specs.Rule.{span}
 use Rattle.route.specs.Refusals.{Verdict, fine, fault}
+use Rattle.route.proofs.Spans.{span-times}
 use Rattle.route.proofs.Tests.{orders, byTest, passed}
 use Rattle.route.proofs.Accepted.{hop-good, hopFine}
 use Rattle.records.proofs.Bytes.{no-number, no-byte}
@@ -102,8 +103,7 @@ written-update xs ys W u small valid = stands-update W u small valid (stands-bet
 prefix-form : {bs : List ℕ} {at m next : ℕ} (W n x : ℕ) → n ≤ W → x < 2 ^ n → Stands bs (numberBytes n) at m → Stands bs (numberBytes x) m next
     → (n ≤ W) × (x * span W n % span W n ≡ 0) × (x * span W n < 2 ^ W) × Stands bs (prefixBytes W (x * span W n) n) at next
 prefix-form W n x short below s t =
-    let parts : n + (W - n) ≡ W = omega arith in
-    (short, mul-mod-left x (span W n), rw parts at (shl-lt n (W - n) below), rw (shl-shr x (W - n)) (stands-joined s t))
+    (short, mul-mod-left x (span W n), span-times W n x short below, rw (shl-shr x (W - n)) (stands-joined s t))
 
 -- an update that is read is valid, and its bytes stand there
 update-stands : (W : ℕ) (bs : List ℕ) (at : ℕ) {u : Update} {next : ℕ} → ((i : ℕ) → getD bs i 0 < 256) → recordAt W bs at ≡ update u next

@@ -54,20 +54,20 @@ pub(crate) fn small_number_at(bytes: &[u8], at: usize, most: u32, fault: Refusal
     if bytes.len() <= at {
         return Number::Refused(Refusal::Cut(at));
     }
-    let b = bytes[at] as u32;
-    if b <= most {
-        return Number::Value(b, at + 1);
+    let first = bytes[at] as u32;
+    if first <= most {
+        return Number::Value(first, at + 1);
     }
-    if b < 128 {
+    if first < 128 {
         return Number::Refused(fault);
     }
-    match number_of(further_bytes(bytes, at, b - 128), at) {
+    match number_of(further_bytes(bytes, at, first - 128), at) {
         Number::Refused(f) => Number::Refused(f),
         Number::Value(_, _) => Number::Refused(fault),
     }
 }
 
-// The number at a place, of which the rest was read.
+// The number at a place, by its rest.
 fn number_of(rest: Rest, at: usize) -> Number
     ensures { λ r. ⌜ readingOf r ≡ restOf at rest ⌝ }
 {
@@ -78,7 +78,7 @@ fn number_of(rest: Rest, at: usize) -> Number
     }
 }
 
-// The number at a place, whose first byte, with the value given, is not its last.
+// The rest of the number at a place, whose first byte is not its last and has these seven bits.
 fn further_bytes(bytes: &[u8], at: usize, first: u32) -> Rest
     requires { ⌜ (at < length (now bytes)) × (first < 128) ⌝ }
     ensures { λ r. ⌜ restOf at r ≡ numberIn at 1 first (drop (at + 1) (now (bytes .entry))) ⌝ }

@@ -3,7 +3,7 @@ use Prim.Native.Nat.{ℕ, _+_, _*_, _-_, _/_, _%_, _^_, _≤_, _<_}
 use mathlib.Core.Path.{_≡_, sym, _∙_, ap}
 use mathlib.Core.Logic.{_↔_}
 use mathlib.Core.Bool.{true}
-use lib.Pow.{pow-pos, pow-lt, shr-shr, mod-mod-pow}
+use lib.Pow.{pow-pos, pow-lt, shl-lt, shr-shr, mod-mod-pow}
 use native.Mathlib.Nat.{div-add-mod', mod-lt, mod-eq-of-lt, div-eq-of-lt, div-eq-of-lt-le, zero-mod, one-mul, zero-mul, pow-le-pow-right}
 use native.Mathlib.Omega.{arith}
 use borrow.Author.Tests.{eqb-true, eq-eqb}
@@ -19,6 +19,10 @@ span-most W n = pow-le-pow-right {n = 2} (omega arith) (omega arith)
 -- a prefix of W bits or more covers one address
 pub span-long : (W n : ℕ) → W ≤ n → span W n ≡ 1
 span-long W n h = ap (λ (k : ℕ). 2 ^ k) (let e : W - n ≡ 0 = omega arith in e)
+
+-- a quotient below 2^n times the span of length n is an address
+pub span-times : (W n x : ℕ) → n ≤ W → x < 2 ^ n → x * span W n < 2 ^ W
+span-times W n x h l = let parts : n + (W - n) ≡ W = omega arith in rw parts at (shl-lt n (W - n) l)
 
 -- 1 shifted left by less than the width of a u64
 pub shl-one : (k : ℕ) → k < 64 → 1 * 2 ^ k % 2 ^ 64 ≡ 2 ^ k

@@ -17,7 +17,7 @@ impl Outcome {
         let value = usize::try_from(self.value).expect("places and counts fit the machine's word");
         match self.refusal {
             0 => Ok(value),
-            number => Err(Refusal::from_parts(number, value).expect("the table's numbers are 1 to 13")),
+            number => Err(refused(number, value)),
         }
     }
 
@@ -27,6 +27,12 @@ impl Outcome {
         self.count()
             .map(|hop| NextHop::new(u16::try_from(hop).expect("a hop is at most 65,535")))
     }
+}
+
+/// The refusal of a number and a place. It is no part of the code that an accepted call runs through.
+#[cold]
+fn refused(number: u64, place: usize) -> Refusal {
+    Refusal::from_parts(number, place).expect("a refusal of the table")
 }
 
 extern "C" {

@@ -20,16 +20,8 @@ impl Prefix {
         Ok(Prefix { address, length })
     }
 
-    /// The prefix of a slot that is used and keeps S1.
-    pub(crate) const fn of_slot(address: u32, tag: u32) -> Self {
-        Prefix {
-            address,
-            length: tag >> 16,
-        }
-    }
-
-    /// The prefix of a record that was accepted.
-    pub(crate) const fn of_record(address: u32, length: u32) -> Self {
+    /// The prefix of an address and a length that the library accepted.
+    pub(crate) const fn accepted(address: u32, length: u32) -> Self {
         Prefix { address, length }
     }
 

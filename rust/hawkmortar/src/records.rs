@@ -81,7 +81,7 @@ impl Record {
     /// The record of numbers that were accepted.
     #[inline]
     fn of([kind, length, address, hop]: [u32; 4]) -> Self {
-        let prefix = Prefix::of_record(address, length);
+        let prefix = Prefix::accepted(address, length);
         if kind != SET {
             return Record::Remove(prefix);
         }

@@ -70,22 +70,22 @@ impl Refusal {
         }
     }
 
-    /// The refusal of a number and a place, if the table has the number.
+    /// The refusal of a number and a place, if the table has the number and, where it gives no place, the place is 0.
     pub(crate) const fn from_parts(number: u64, place: usize) -> Option<Self> {
-        Some(match number {
-            1 => Refusal::Length(place),
-            2 => Refusal::Address(place),
-            3 => Refusal::Hop(place),
-            4 => Refusal::Twice(place),
-            5 => Refusal::Full,
-            6 => Refusal::Absent,
-            7 => Refusal::Image(place),
-            8 => Refusal::Size,
-            9 => Refusal::Room,
-            10 => Refusal::Plan(place),
-            11 => Refusal::Number(place),
-            12 => Refusal::Cut(place),
-            13 => Refusal::Kind(place),
+        Some(match (number, place) {
+            (1, _) => Refusal::Length(place),
+            (2, _) => Refusal::Address(place),
+            (3, _) => Refusal::Hop(place),
+            (4, _) => Refusal::Twice(place),
+            (5, 0) => Refusal::Full,
+            (6, 0) => Refusal::Absent,
+            (7, _) => Refusal::Image(place),
+            (8, 0) => Refusal::Size,
+            (9, 0) => Refusal::Room,
+            (10, _) => Refusal::Plan(place),
+            (11, _) => Refusal::Number(place),
+            (12, _) => Refusal::Cut(place),
+            (13, _) => Refusal::Kind(place),
             _ => return None,
         })
     }
@@ -121,10 +121,13 @@ mod tests {
     #[test]
     fn a_refusal_is_that_of_its_number_and_place() {
         for number in 1..=13 {
-            let refusal = Refusal::from_parts(number, 9).unwrap();
-            assert_eq!(u64::from(refusal.number()), number);
-            let place = if [5, 6, 8, 9].contains(&number) { 0 } else { 9 };
-            assert_eq!(refusal.place(), place, "refusal {number}");
+            let without_place = [5, 6, 8, 9].contains(&number);
+            for place in [0, 9] {
+                let parts =
+                    Refusal::from_parts(number, place).map(|refusal| (refusal.number().into(), refusal.place()));
+                let expected = (place == 0 || !without_place).then_some((number, place));
+                assert_eq!(parts, expected, "refusal {number}");
+            }
         }
         assert_eq!(Refusal::from_parts(0, 0), None);
         assert_eq!(Refusal::from_parts(14, 0), None);

@@ -177,7 +177,7 @@ impl Entry {
     /// What a slot that keeps S1 holds, if it is used: a free slot has hop 0.
     fn of(slot: usize, address: u32, tag: u32) -> Option<Self> {
         let hop = NextHop::new(tag as u16)?;
-        let prefix = Prefix::of_slot(address, tag);
+        let prefix = Prefix::accepted(address, tag >> 16);
         Some(Entry { slot, prefix, hop })
     }
 }

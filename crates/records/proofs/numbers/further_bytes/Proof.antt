@@ -1,15 +1,15 @@
--- The loop reads byte k at its turn (Partly); what a byte adds keeps every sum and product within 32 bits.
+-- The loop reads byte k at its turn (BytesRead); what a byte adds keeps every sum and product within 32 bits.
 use Prim.Native.Nat.{_+_, _-_}
 use mathlib.Core.Path.{sym, _∙_}
 use lib.ListN.{length}
 use native.Mathlib.Omega.{arith}
 use borrow.Author.Needs.{needs}
-use Rattle.records.proofs.Bytes.{Partly, one-read, cut-read, bad-read, last-fits, last-read, fifth-read, group-fits, weight-fits, group-read}
+use Rattle.records.proofs.Bytes.{BytesRead, one-read, cut-read, bad-read, last-fits, last-read, fifth-read, group-fits, weight-fits, group-read}
 use Rattle.records.proofs.numbers.further_bytes.Statement.{statement}
 use Rattle.records.proofs.numbers.further_bytes.Tie as tie
 
 abbrev Inv-loop : tie.InvT-loop
-Inv-loop bytes at first value₀ weight₀ k₀ value weight k = Partly bytes at first value weight k
+Inv-loop bytes at first value₀ weight₀ k₀ value weight k = BytesRead bytes at first value weight k
 
 abbrev μ-loop : tie.MeasureT-loop
 μ-loop bytes at first value₀ weight₀ k₀ value weight k = length bytes - (at + k)

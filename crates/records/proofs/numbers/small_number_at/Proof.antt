@@ -10,8 +10,8 @@ use Rattle.records.proofs.numbers.small_number_at.Tie as tie
 returns : tie.Need-returns
 returns c = small-cut _ _ _ _ _ (search needs)
 
-cast-b : tie.Need-cast-b
-cast-b c = omega (arith, c .shared-slice-known2 .given (c .before .before .before .args .at))
+cast-first : tie.Need-cast-first
+cast-first c = omega (arith, c .shared-slice-known2 .given (c .before .before .before .args .at))
 
 returns-2 : tie.Need-returns-2
 returns-2 c = small-byte (c .before .before .before .before .args .bytes .now) (c .before .before .before .before .args .at) (c .before .before .before .before .args .most) _ _ (search needs) (search needs) (search needs)
@@ -35,5 +35,5 @@ further-bytes-requires c κs = (search needs, omega (arith, c .before .before .s
 pub small-number-at-spec : {M : Type 1} → statement M
 small-number-at-spec =
     tie.close
-    (tie.spec returns (λ c. search needs) cast-b (λ c. search needs) returns-2 returns-3 further-bytes-requires (λ c κs. search needs)
+    (tie.spec returns (λ c. search needs) cast-first (λ c. search needs) returns-2 returns-3 further-bytes-requires (λ c κs. search needs)
     (λ c. search needs) (λ c. search needs) returns-4 returns-5)
