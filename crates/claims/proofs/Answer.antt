@@ -15,11 +15,11 @@ use Rattle.tcam.specs.Applies.{written}
 use Rattle.tcam.specs.Book.{Book, BookAnswer, bookImage, settled}
 use Rattle.tcam.specs.Tables.{addresses, tags, routesIn, TableOf}
 use Rattle.claims.specs.Sequence.{Table, Plan, State, planned, Sound, AcceptedPlan, PlanClaim, after, lookedUp}
-use Rattle.claims.proofs.Times.{All, all-take}
+use Rattle.tcam.proofs.Whole.{Makeable, faultless-first}
 use Rattle.claims.proofs.Image.{BookOk}
 use Rattle.claims.proofs.Form.{well-formed, image-length, image-keeps}
 use Rattle.claims.proofs.Members.{Same, same-members}
-use Rattle.claims.proofs.Apply.{cells-back, no-size-fault, Good, answers-k, after-is, looked-up, length-written, keeps-written}
+use Rattle.claims.proofs.Apply.{cells-back, no-size-fault, answers-k, after-is, looked-up, length-written, keeps-written}
 use Rattle.claims.proofs.Set.{set-right}
 use Rattle.claims.proofs.Cuts.{Leads}
 
@@ -59,7 +59,7 @@ module _ (W M : ℕ) (i : 1 ≤ M) (j : M ≤ maxSlots) (b : Book) (ok : BookOk 
     abbrev nextTable : Table
     nextTable = record { image = after W (bookImage W M b) (plan .row) (length ws); book = next; routes = nextRoutes }
 
-    cs-good : All (Good W (length (bookImage W M b))) ws
+    cs-good : Makeable W (length (bookImage W M b)) ws
     cs-good = rw (image-length W M b ok) (l .good)
 
     low : 1 ≤ length (bookImage W M b)
@@ -84,7 +84,7 @@ module _ (W M : ℕ) (i : 1 ≤ M) (j : M ≤ maxSlots) (b : Book) (ok : BookOk 
         answers = answers-k W (bookImage W M b) low high ws cs-good row k n;
         looksUp = λ q. ap (λ (cs : List Cell). lookedUp W cs q) (after-is W (bookImage W M b) low high ws cs-good row k n)
             ∙ looked-up W (written (bookImage W M b) (take k ws)) (rw length-written low) (rw length-written high)
-            (keeps-written W M (bookImage W M b) (take k ws) (image-keeps W M b ok) (all-take _ k ws (l .good))) q
+            (keeps-written W M 0 (bookImage W M b) (take k ws) (image-keeps W M b ok) (faultless-first W M 0 k ws (l .good .faultless 0))) q
             ∙ ap value (l .cuts k n q);
       };
     }

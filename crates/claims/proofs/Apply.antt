@@ -1,19 +1,20 @@
 -- Applying the first k writes of a plan, and looking up afterwards.
-use Prim.Native.Nat.{ℕ, suc, zero, _+_, _*_, _/_, _≤_, _<_}
+use Prim.Native.Nat.{ℕ, suc, zero, _+_, _≤_}
 use mathlib.Core.Path.{_≡_, refl, ap, _∙_}
-use mathlib.Core.Bool.{true}
-use mathlib.Core.List.{List, [], _∷_, _++_, map}
-use native.Mathlib.Omega.{arith}
-use lib.ListN.{length, length-append, length-map, length-set, set, take, drop}
-use lib.Seq.{take-append-le}
-use borrow.Author.Tests.{eq-eqb, le-leb, lt-leb, le-ltb}
-use Rattle.route.specs.Refusals.{fine, value}
+use mathlib.Core.Bool.{true, not}
+use mathlib.Core.List.{List, [], _∷_, map}
+use lib.Dec.{leb}
+use lib.ListN.{length, length-map, length-set, set, take}
+use borrow.Author.Tests.{eq-eqb, le-leb, not-false}
+use Rattle.route.specs.Refusals.{fine, faultIf, value, planRefusal}
 use Rattle.tcam.specs.Slots.{maxSlots, Cell, cells, keepsS1, sizeFault, slotFault, firstMatch}
-use Rattle.tcam.specs.Plans.{Write, writes, numbers, rowAfter}
-use Rattle.tcam.specs.Applies.{writesIn, written, stored, writeFault, applyFault, applyAnswer}
+use Rattle.tcam.specs.Plans.{Write, writes, rowAfter}
+use Rattle.tcam.specs.Applies.{isWrong, writesIn, written, stored, storedIf, writeFault, applyFault, applyAnswer}
 use Rattle.tcam.specs.Tables.{addresses, tags}
+use Rattle.route.proofs.Tests.{or-parts, inTurn, passed}
+use Rattle.tcam.proofs.Whole.{Makeable, first-accepted, first-stored}
 use Rattle.claims.specs.Sequence.{after, lookedUp}
-use Rattle.claims.proofs.Times.{All, all-set, all-take}
+use Rattle.claims.proofs.Times.{All, all-set}
 
 pub cells-back : (cs : List Cell) → cells (addresses cs) (tags cs) ≡ cs
 cells-back [] = refl
@@ -41,19 +42,13 @@ pub length-written : (cs : List Cell) (ws : List Write) → length (written cs w
 length-written cs [] = refl
 length-written cs (w ∷ ws) = length-written (set cs (w .slot) (w .cell)) ws ∙ length-set cs (w .slot) (w .cell)
 
--- a write into the table of a cell that keeps S1
-pub record Good (W M : ℕ) (w : Write) : Type 0 where
-  pub inside : w .slot < M
-  pub keeps : Keeps W (w .cell)
-
 module _ (W : ℕ) where
-  pub keeps-written : (M : ℕ) (cs : List Cell) (ws : List Write) → All (Keeps W) cs → All (Good W M) ws → All (Keeps W) (written cs ws)
-  keeps-written M cs [] h g = h
-  keeps-written M cs (w ∷ ws) h g = keeps-written M (set cs (w .slot) (w .cell)) ws (all-set (Keeps W) cs (w .slot) (w .cell) h (g .0 .keeps)) (g .1)
-
-  no-write-fault : (M i : ℕ) (ws : List Write) → All (Good W M) ws → writeFault W M i ws ≡ fine
-  no-write-fault M i [] g = refl
-  no-write-fault M i (w ∷ ws) g = rw (lt-leb M (w .slot) (g .0 .inside), g .0 .keeps) (no-write-fault M (i + 1) ws (g .1))
+  pub keeps-written : (M i : ℕ) (cs : List Cell) (ws : List Write) → All (Keeps W) cs → writeFault W M i ws ≡ fine → All (Keeps W) (written cs ws)
+  keeps-written M i cs [] h f = h
+  keeps-written M i cs (w ∷ ws) h f =
+      let t = inTurn (faultIf (isWrong W M w) planRefusal i) _ f in
+      let k = or-parts (leb M (w .slot)) (not (keepsS1 W (w .cell))) (passed _ _ _ (t .0)) .1 in
+      keeps-written M (i + 1) (set cs (w .slot) (w .cell)) ws (all-set (Keeps W) cs (w .slot) (w .cell) h (not-false _ k)) (t .1)
 
   no-slot-fault : (i : ℕ) (cs : List Cell) → All (Keeps W) cs → slotFault W i cs ≡ fine
   no-slot-fault i [] h = refl
@@ -63,32 +58,20 @@ module _ (W : ℕ) where
 pub no-size-fault : (cs : List Cell) → 1 ≤ length cs → length cs ≤ maxSlots → sizeFault (addresses cs) (tags cs) ≡ fine
 no-size-fault cs i j = simp length-map (rw (eq-eqb (length cs) (length cs) refl, le-leb 1 (length cs) i, le-leb (length cs) maxSlots j))
 
-read-back : (ws : List Write) (row : List ℕ) → writesIn (numbers ws ++ row) ≡ ws ++ writesIn row
-read-back [] row = refl
-read-back (w ∷ ws) row = ap (λ (l : List Write). w ∷ l) (read-back ws row)
-
-numbers-length : (ws : List Write) → length (numbers ws) ≡ 3 * length ws
-numbers-length [] = refl
-numbers-length (w ∷ ws) = omega (arith, numbers-length ws)
-
-module _ (W : ℕ) (cs : List Cell) (i : 1 ≤ length cs) (j : length cs ≤ maxSlots) (ws : List Write) (g : All (Good W (length cs)) ws) (row : List ℕ)
+module _ (W : ℕ) (cs : List Cell) (i : 1 ≤ length cs) (j : length cs ≤ maxSlots) (ws : List Write) (m : Makeable W (length cs) ws) (row : List ℕ)
     (k : ℕ) (n : k ≤ length ws) where
-  abbrev made : List ℕ
-  made = rowAfter (writes ws) row
+  in-row : Makeable W (length (addresses cs)) ws
+  in-row = rw length-map m
 
-  enough : k ≤ length made / 3
-  enough = omega (arith, length-append (numbers ws) (drop (3 * length ws) row), numbers-length ws)
+  pub answers-k : applyAnswer W (addresses cs) (tags cs) (rowAfter (writes ws) row) k ≡ value k
+  answers-k = rw (first-accepted W (addresses cs) (tags cs) (no-size-fault cs i j) ws in-row row k n)
 
-  accepted : applyFault W (addresses cs) (tags cs) made k ≡ fine
-  accepted =
-      rw (no-size-fault cs i j, le-ltb (length made / 3) k enough, read-back, take-append-le k ws _ n, length-map)
-      (no-write-fault W (length cs) 0 (take k ws) (all-take (Good W (length cs)) k ws g))
+  part-is : (part : Cell → ℕ) → storedIf (applyFault W (addresses cs) (tags cs) (rowAfter (writes ws) row) k) part (map part cs)
+      (take k (writesIn (rowAfter (writes ws) row))) ≡ stored part (map part cs) (take k ws)
+  part-is part = first-stored W (addresses cs) (tags cs) (no-size-fault cs i j) ws in-row row k n part (map part cs)
 
-  pub answers-k : applyAnswer W (addresses cs) (tags cs) made k ≡ value k
-  answers-k = rw accepted
-
-  pub after-is : after W cs made k ≡ written cs (take k ws)
-  after-is = rw (accepted, read-back, take-append-le k ws _ n) (stored-rows cs (take k ws))
+  pub after-is : after W cs (rowAfter (writes ws) row) k ≡ written cs (take k ws)
+  after-is = rw (part-is (λ c. c .address), part-is (λ c. c .tag)) (stored-rows cs (take k ws))
 
 pub looked-up : (W : ℕ) (cs : List Cell) → 1 ≤ length cs → length cs ≤ maxSlots → All (Keeps W) cs → (q : ℕ) → lookedUp W cs q ≡ value (firstMatch W cs q)
 looked-up W cs i j h q = rw (no-size-fault cs i j, cells-back, no-slot-fault W 0 cs h)

@@ -1,4 +1,4 @@
--- What every plan comes to: its writes are good, the whole of them leads to the next book's image, and every cut looks up right.
+-- What every plan comes to: its writes can be made, the whole of them leads to the next book's image, and every cut looks up right.
 use Prim.Native.Nat.{ℕ, suc, zero, _≤_, _<_}
 use mathlib.Core.Path.{_≡_, refl, sym, ap, _∙_}
 use mathlib.Core.Bool.{Bool, true, false, cond}
@@ -6,7 +6,7 @@ use mathlib.Core.List.{List, [], _∷_, _++_}
 use native.Mathlib.Nat.{le-refl}
 use native.Mathlib.Omega.{arith}
 use lib.Dec.{ltb}
-use lib.ListN.{length, take}
+use lib.ListN.{length, length-append, take}
 use lib.Seq.{take-all, set-append-seam}
 use borrow.Author.Tests.{lt-ltb, le-ltb, ltb-true, ltb-false}
 use Rattle.route.specs.Rule.{Route, answer}
@@ -15,33 +15,32 @@ use Rattle.tcam.specs.Plans.{Write, write}
 use Rattle.tcam.specs.Applies.{written}
 use Rattle.tcam.specs.Book.{Book, bookImage}
 use Rattle.tcam.specs.Tables.{routesIn}
-use Rattle.claims.proofs.Times.{All, all-map}
+use Rattle.tcam.proofs.Whole.{Makeable, none-makeable}
 use Rattle.claims.proofs.Look.{firstMatch-first}
-use Rattle.claims.proofs.Walk.{seen, seen-after, walk-whole, walk-writes, walk-cuts, walk-cleared}
+use Rattle.claims.proofs.Walk.{seen, seen-after, walk-whole, walk-cuts, walk-cleared}
 use Rattle.claims.proofs.Image.{BookOk}
 use Rattle.claims.proofs.Update.{Update}
-use Rattle.claims.proofs.Form.{image-keeps, image-length}
+use Rattle.claims.proofs.Form.{image-length}
 use Rattle.claims.proofs.Members.{Same}
 use Rattle.claims.proofs.Set.{looks-up}
-use Rattle.claims.proofs.Apply.{Keeps, Good}
 
 -- the plan ws leads from the book b and the set rs to the next ones; lookups answer for the next set from the write `switch` on
 pub record Leads (W M : ℕ) (b : Book) (rs : List Route) (ws : List Write) (next : Book) (after : List Route) (switch : ℕ) : Type 0 where
-  pub good : All (Good W M) ws
+  pub good : Makeable W M ws
   pub ok : BookOk W M next
   pub same : Same (routesIn (bookImage W M next)) after
   pub whole : written (bookImage W M b) ws ≡ bookImage W M next
   pub cuts : (k : ℕ) → k ≤ length ws → (q : ℕ) → firstMatch W (written (bookImage W M b) (take k ws)) q ≡ cond (ltb k switch) (answer W rs q) (answer W after q)
 
+-- the walk starts in the table
+pub starts-inside : {W M : ℕ} {b : Book} {gap last : Cell} {plan : ℕ → List Write} {next : Book} {w : ℕ} → BookOk W M b
+    → (u : Update W M b gap last plan next w) → length (u .front) < M
+starts-inside {W} {M} {b} {gap} ok u = omega (arith, image-length W M b ok, ap length (u .before), length-append (u .front) (gap ∷ u .back))
+
 module _ (W M : ℕ) (b : Book) (ok : BookOk W M b) (rs : List Route) (same : Same (routesIn (bookImage W M b)) rs)
     (gap last : Cell) (plan : ℕ → List Write) (next : Book) (w : ℕ) (u : Update W M b gap last plan next w) where
   abbrev ws : List Write
   ws = plan (length (u .front))
-
-  update-good : Keeps W last → All (Good W M) ws
-  update-good h =
-      all-map _ _ (λ w g. record { inside = g .0; keeps = g .1 }) ws
-      (walk-writes W last (Keeps W) h M (u .walks .walk) (rw (u .before) at (image-length W M b ok)) (rw (u .before) at (image-keeps W M b ok)))
 
   update-whole : written (bookImage W M b) ws ≡ bookImage W M next
   update-whole = rw (u .before) (walk-whole W last (u .walks .walk))
@@ -57,10 +56,10 @@ module _ (W M : ℕ) (b : Book) (ok : BookOk W M b) (rs : List Route) (same : Sa
     cut-all : (k : ℕ) → length ws ≤ k → (q : ℕ) → firstMatch W (written (bookImage W M b) (take k ws)) q ≡ answer W after q
     cut-all k i q = rw (take-all k ws, update-whole) (looks-up W M next (u .ok) after next-same q)
 
-    leads : Keeps W last → (switch : ℕ) → 1 ≤ switch → switch ≤ length ws
+    leads : Makeable W M ws → (switch : ℕ) → 1 ≤ switch → switch ≤ length ws
         → ((k : ℕ) → suc k < length ws → (q : ℕ) → seen W q (u .front ++ u .back) 0 ≡ cond (ltb (suc k) switch) (answer W rs q) (answer W after q))
         → Leads W M b rs ws next after switch
-    leads h switch i j some = record { good = update-good h; ok = u .ok; same = next-same; whole = update-whole; cuts = cuts }
+    leads h switch i j some = record { good = h; ok = u .ok; same = next-same; whole = update-whole; cuts = cuts }
       where
         more : (k q : ℕ) (t : Bool) → ltb (suc k) (length ws) ≡ t
             → firstMatch W (written (bookImage W M b) (take (suc k) ws)) q ≡ cond (ltb (suc k) switch) (answer W rs q) (answer W after q)
@@ -75,25 +74,25 @@ module _ (W M : ℕ) (b : Book) (ok : BookOk W M b) (rs : List Route) (same : Sa
         cuts (suc k) l q = more k q (ltb (suc k) (length ws)) refl
 
     -- an absent prefix is set: the last write answers for the set after
-    pub leads-set : Keeps W last → isFree gap ≡ true → 1 ≤ w → Leads W M b rs ws next after (length ws)
+    pub leads-set : Makeable W M ws → isFree gap ≡ true → 1 ≤ w → Leads W M b rs ws next after (length ws)
     leads-set h f i = leads h (length ws) (omega (arith, u .walks .many)) (le-refl (length ws))
         (λ k j q. rw (lt-ltb (suc k) (length ws) j)
         (seen-after W q (u .front) (u .back) (gap ∷ u .back) 0 (rw f refl)
         ∙ ap (λ (cs : List Cell). seen W q cs 0) (sym (u .before)) ∙ sym (firstMatch-first W (bookImage W M b) q) ∙ cut-none q))
 
     -- a prefix is removed: the first write does
-    pub leads-removed : Keeps W last → isFree last ≡ true → 1 ≤ w → Leads W M b rs ws next after 1
+    pub leads-removed : Makeable W M ws → isFree last ≡ true → 1 ≤ w → Leads W M b rs ws next after 1
     leads-removed h f i = leads h 1 (le-refl 1) (omega (arith, u .walks .many))
         (λ k j q. rw (le-ltb (suc k) 1 (omega arith))
         (sym (walk-cleared W q last f (u .walks .walk) 0) ∙ sym (firstMatch-first W (bookImage W M next) q) ∙ looks-up W M next (u .ok) after next-same q))
 
     -- one write: it does
-    pub leads-replaced : Keeps W last → w ≡ 1 → Leads W M b rs ws next after 1
+    pub leads-replaced : Makeable W M ws → w ≡ 1 → Leads W M b rs ws next after 1
     leads-replaced h e = leads h 1 (le-refl 1) (omega (arith, u .walks .many)) (λ k j q. absurd (omega (arith, u .walks .many)))
 
     -- no write at all, where the entry is already there
     pub leads-unchanged : gap ≡ last → ws ≡ write (length (u .front)) last ∷ [] → Leads W M b rs [] next after 1
-    leads-unchanged e p = record { good = tt; ok = u .ok; same = next-same; whole = whole; cuts = cuts }
+    leads-unchanged e p = record { good = none-makeable; ok = u .ok; same = next-same; whole = whole; cuts = cuts }
       where
         whole : bookImage W M b ≡ bookImage W M next
         whole = u .before ∙ ap (λ (c : Cell). u .front ++ (c ∷ u .back)) e ∙ sym (set-append-seam (u .front) gap (u .back) last)

@@ -9,6 +9,7 @@ use Rattle.tcam.specs.Slots.{Cell, free}
 use Rattle.tcam.specs.Plans.{Write, setAbsent}
 use Rattle.tcam.specs.Book.{Book, bookImage, afterSet, rowsTurned, lengths, entries}
 use Rattle.tcam.specs.Tables.{routeOf, routesIn}
+use Rattle.tcam.proofs.Cells.{entry-length, entry-hop}
 use Rattle.claims.specs.Sequence.{without}
 use Rattle.claims.proofs.Times.{times}
 use Rattle.claims.proofs.Row.{IsEntry, at}
@@ -17,7 +18,7 @@ use Rattle.claims.proofs.Image.{BookOk}
 use Rattle.claims.proofs.Update.{Update}
 use Rattle.claims.proofs.Members.{Same}
 use Rattle.claims.proofs.Next.{Cleared, same-set}
-use Rattle.claims.proofs.Entry.{cellOf, prefix-length, entry, entry-length, entry-hop}
+use Rattle.claims.proofs.Entry.{cellOf, prefix-length, entry}
 use Rattle.claims.proofs.Updates.{update-set, cleared-absent}
 
 module _ (W M : ℕ) (b : Book) (ok : BookOk W M b) (rs : List Route) (same : Same (routesIn (bookImage W M b)) rs) (a n h : ℕ)

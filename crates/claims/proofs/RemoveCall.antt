@@ -2,7 +2,7 @@
 use Prim.Native.Nat.{ℕ, _+_, _≤_}
 use mathlib.Core.Path.{_≡_, refl, sym, subst}
 use mathlib.Core.Bool.{Bool, true, not}
-use mathlib.Core.List.{List}
+use mathlib.Core.List.{List, []}
 use native.Mathlib.Omega.{arith}
 use lib.ListN.{length}
 use Rattle.route.specs.Rule.{Route}
@@ -12,6 +12,8 @@ use Rattle.tcam.specs.Plans.{Planned, refuses, ofPrefix, firstSlot, removePrese
 use Rattle.tcam.specs.Book.{Book, BookAnswer, bookImage, hasAddress, isUpperLength, atEdge, afterRemove, rowsTurned, lengths, countIf}
 use Rattle.tcam.specs.Book.{settled, bookRemove}
 use Rattle.tcam.specs.Tables.{routesIn, addresses, tags}
+use Rattle.tcam.proofs.SlotsAgree.{imageKeepsS1}
+use Rattle.tcam.proofs.Whole.{Makeable, removePresent-makeable}
 use Rattle.claims.specs.Sequence.{mostToRemove, Table, Plan, State, planned, without}
 use Rattle.claims.proofs.Times.{countIf-most}
 use Rattle.claims.proofs.Found.{Found, Search, absent, present, searched}
@@ -22,7 +24,7 @@ use Rattle.claims.proofs.Form.{well-formed, image-length}
 use Rattle.claims.proofs.Members.{Same}
 use Rattle.claims.proofs.Next.{same-removed}
 use Rattle.claims.proofs.Apply.{cells-back, no-size-fault}
-use Rattle.claims.proofs.Cuts.{leads-removed}
+use Rattle.claims.proofs.Cuts.{starts-inside, leads-removed}
 use Rattle.claims.proofs.Entry.{prefix-length}
 use Rattle.claims.proofs.Updates.{update-remove, found-prefix, cleared-present, stands-at, stands-nowhere, rowsTurned-most}
 use Rattle.claims.proofs.Answer.{Holding, Answered, answers-refused, answers-room}
@@ -57,11 +59,17 @@ module _ (W M : ℕ) (i : 1 ≤ M) (j : M ≤ maxSlots) (b : Book) (ok : BookOk 
       (sym (stands-at W M b ok n bits a (u .front) (q .entry) (u .back) (u .before) prefix))
       (answers-room W M i j b ok rs same back rest backs plans (mostToRemove W) row (λ w. 1) (without a n rs) (removePresent W cs n (length (u .front)))
       (afterRemove W b n a) many
-      (leads-removed W M b ok rs same (q .entry) free (λ s. removePresent W cs n s) (afterRemove W b n a) many u (without a n rs) next refl refl (omega arith))
+      (leads-removed W M b ok rs same (q .entry) free (λ s. removePresent W cs n s) (afterRemove W b n a) many u (without a n rs) next
+      makeable refl (omega arith))
       (u .walks .many) (omega (arith, rowsTurned-most W M b ok n bits, countIf-most (not (atEdge (isUpperLength W n) a (b n))))))
     where
       u : Update W M b (q .entry) free (λ s. removePresent W cs n s) (afterRemove W b n a) many
       u = update-remove W M b ok n bits a q
+
+      makeable : Makeable W M (removePresent W cs n (length (u .front)))
+      makeable =
+          let e = image-length W M b ok in
+          rw e at (removePresent-makeable W cs (imageKeepsS1 W 0 0 [] cs (well-formed W M b ok)) n (length (u .front)) (rw e (starts-inside ok u)))
 
       prefix : ofPrefix a n (q .entry) ≡ true
       prefix = found-prefix W M b ok n bits a q

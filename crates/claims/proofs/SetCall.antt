@@ -15,6 +15,8 @@ use Rattle.tcam.specs.Plans.{Write, Planned, refuses, withRoom, ofPrefix, first
 use Rattle.tcam.specs.Book.{Book, BookAnswer, bookImage, hasAddress, hasEntry, replaced, afterSet, rowsTurned, lengths, entries}
 use Rattle.tcam.specs.Book.{countIf, settled, bookSet}
 use Rattle.tcam.specs.Tables.{routesIn, addresses, tags}
+use Rattle.tcam.proofs.SlotsAgree.{imageKeepsS1}
+use Rattle.tcam.proofs.Whole.{Makeable, none-makeable, write-makeable, setAbsent-makeable}
 use Rattle.claims.specs.Sequence.{mostToSet, Table, Plan, State, planned, without}
 use Rattle.claims.proofs.Times.{times}
 use Rattle.claims.proofs.Row.{IsEntry, at}
@@ -24,8 +26,8 @@ use Rattle.claims.proofs.Update.{Update}
 use Rattle.claims.proofs.Form.{well-formed, image-length}
 use Rattle.claims.proofs.Members.{Same}
 use Rattle.claims.proofs.Apply.{cells-back, no-size-fault}
-use Rattle.claims.proofs.Cuts.{Leads, leads-set, leads-replaced, leads-unchanged}
-use Rattle.claims.proofs.Entry.{cellOf, prefix-length, entry}
+use Rattle.claims.proofs.Cuts.{starts-inside, Leads, leads-set, leads-replaced, leads-unchanged}
+use Rattle.claims.proofs.Entry.{cellOf, prefix-length}
 use Rattle.claims.proofs.Updates.{update-replace, found-prefix, cleared-present, stands-at, stands-there, stands-nowhere}
 use Rattle.claims.proofs.Updates.{full-is, rowsTurned-most}
 use Rattle.claims.proofs.HasPrefix.{set-lacks, set-has, hasEntry-is}
@@ -97,11 +99,16 @@ module _ (W M : ℕ) (i : 1 ≤ M) (j : M ≤ maxSlots) (b : Book) (ok : BookOk 
         settle (setAbsent W cs n new) bookAfterSet writesToJoin
         (rw (set-lacks W M b ok rs same a n h bits z)
         (leads-set W M b ok rs same free new (λ s. setAbsent W cs n new) bookAfterSet writesToJoin u nextSet
-        (same-joins W M b ok rs same a n h f g z space) (entry-new .keeps) refl (omega arith)))
+        (same-joins W M b ok rs same a n h f g z space) makeable refl (omega arith)))
         (u .walks .many) (omega (arith, rowsTurned-most W M b ok n bits))
       where
         u : Update W M b free new (λ s. setAbsent W cs n new) bookAfterSet writesToJoin
         u = joins W M b ok rs same a n h f g z space
+
+        makeable : Makeable W M (setAbsent W cs n new)
+        makeable =
+            let e = image-length W M b ok in
+            rw e at (setAbsent-makeable W cs (imageKeepsS1 W 0 0 [] cs (well-formed W M b ok)) n new (rw e i) (entry-new .keeps))
 
     -- present: one write where the hop differs, none where it is the same
     set-present : Found a (b n) → Answers plan (settled fine room replaces b replacedBook)
@@ -146,7 +153,8 @@ module _ (W M : ℕ) (i : 1 ≤ M) (j : M ≤ maxSlots) (b : Book) (ok : BookOk 
             (rw there (leads-unchanged W M b ok rs same (q .entry) new (λ s. write s new ∷ []) replacedBook 1 u nextSet next (entry-is e) refl))
             refl (omega arith)
         go false e = settle (write slot new ∷ []) replacedBook 1
-            (rw there (leads-replaced W M b ok rs same (q .entry) new (λ s. write s new ∷ []) replacedBook 1 u nextSet next (entry-new .keeps) refl))
+            (rw there (leads-replaced W M b ok rs same (q .entry) new (λ s. write s new ∷ []) replacedBook 1 u nextSet next
+            (write-makeable (starts-inside ok u) (entry-new .keeps) none-makeable) refl))
             refl (omega arith)
 
     by-search : {t : Bool} → Search a (b n) t → Answers plan

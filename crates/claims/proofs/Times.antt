@@ -5,7 +5,7 @@ use mathlib.Core.Bool.{Bool, true, false}
 use mathlib.Core.List.{List, [], _∷_, _++_}
 use native.Mathlib.Nat.{zero-add, le-refl}
 use native.Mathlib.Omega.{arith}
-use lib.ListN.{length, take, set, replicate}
+use lib.ListN.{length, set, replicate}
 use Rattle.tcam.specs.Book.{countIf}
 
 pub countIf-most : (t : Bool) → countIf t ≤ 1
@@ -65,11 +65,6 @@ none-here false n h = refl
 pub none : {A : Type 0} (t : A → Bool) (xs : List A) → All (λ x. t x ≡ false) xs → times t xs ≡ 0
 none t [] h = refl
 none t (x ∷ xs) h = rw (h .0) (omega (arith, none t xs (h .1)))
-
-pub all-take : {A : Type 0} (P : A → Type 0) (k : ℕ) (xs : List A) → All P xs → All P (take k xs)
-all-take P zero xs h = tt
-all-take P (suc k) [] h = tt
-all-take P (suc k) (x ∷ xs) h = (h .0, all-take P k xs (h .1))
 
 pub all-set : {A : Type 0} (P : A → Type 0) (xs : List A) (i : ℕ) (x : A) → All P xs → P x → All P (set xs i x)
 all-set P [] i x h k = tt

@@ -5,14 +5,14 @@ use mathlib.Core.Path.{_≡_, refl, sym, ap, _∙_}
 use mathlib.Core.Bool.{Bool, true, false, cond, _&&_}
 use mathlib.Core.List.{List, [], _∷_, _++_, append-assoc}
 use native.Mathlib.Omega.{arith}
-use lib.ListN.{length, set, take, length-append, length-set}
+use lib.ListN.{length, set, take}
 use lib.Seq.{set-at}
 use Rattle.tcam.specs.Slots.{Cell, isFree, hopIn, hits}
 use Rattle.tcam.specs.Plans.{Write, write}
 use Rattle.tcam.specs.Applies.{written}
 use Rattle.tcam.specs.Book.{countIf}
-use Rattle.claims.proofs.Times.{All, all-map, all-set, times, times-append}
-use Rattle.claims.proofs.Join.{join, around, around-is, join-assoc, both-sides, times-join, all-parts}
+use Rattle.claims.proofs.Times.{All, all-map, times, times-append}
+use Rattle.claims.proofs.Join.{join, around, around-is, join-assoc, both-sides, times-join}
 use Rattle.claims.proofs.Look.{first, first-append, first-turn, first-again, Apart}
 
 -- `Walk W last p f s ws g`: in the table p ++ f ∷ s the slot of f is open, the writes ws walk it along, and g is the table after them.
@@ -44,20 +44,6 @@ module _ (W : ℕ) (last : Cell) where
       → times t g ≡ times t p + times t s + countIf (t last)
   walk-times t (ends {p = p} {s = s} e) = simp (times-append t) (omega arith)
   walk-times t (step up a x xs b e h w) = walk-times t w ∙ simp (← (times-append t)) (simp (both-sides, times-join) (omega arith))
-
-  -- the writes stay inside the table and write what the table holds, or the last cell
-  pub walk-writes : (P : Cell → Type 0) → P last → (M : ℕ) {p s g : List Cell} {f : Cell} {ws : List Write} → Walk W last p f s ws g
-      → length (p ++ (f ∷ s)) ≡ M → All P (p ++ (f ∷ s)) → All (λ w. (w .slot < M) × P (w .cell)) ws
-  walk-writes P l M (ends {p = p} {s = s} {f = f} e) i k = ((omega (arith, length-append p (f ∷ s)), l), tt)
-  walk-writes P l M (step up a x xs b {f = f} {at = at} e h w) i k =
-      let r = around up a x xs in
-      let ahead = all-parts up P r _ (rw (← (around-is up r f b)) at k) .0 in
-      let here = all-parts up P (x ∷ []) xs (all-parts up P a _ ahead .1) .0 .0 in
-      let cs = cond up r b ++ (f ∷ cond up b r) in
-      let written = step-write up a x xs b f at e in (
-        (omega (arith, length-append (cond up r b) (f ∷ cond up b r)), here),
-        walk-writes P l M w (ap length (sym written) ∙ length-set cs at x ∙ i) (rw (← written) (all-set P cs at x k here)),
-      )
 
 module _ (W q : ℕ) where
   abbrev pub seen : List Cell → ℕ → ℕ

@@ -1,14 +1,20 @@
--- S1 of one slot: what it says of a used one, and the ways in which it is tested.
-use Prim.Native.Nat.{ℕ, _%_, _≤_, _<_}
+-- S1 of one slot: what it says of a used one, the ways in which it is tested, and which slots keep it: those of an image without a
+-- fault, and an entry whose prefix and hop are not refused.
+use Prim.Native.Nat.{ℕ, zero, suc, _+_, _%_, _≤_, _<_}
 use mathlib.Core.Path.{_≡_, refl, sym, ap, _∙_}
 use mathlib.Core.Logic.{_≢_}
 use mathlib.Core.Bool.{Bool, true, false, not, _&&_, _||_}
+use mathlib.Core.List.{List, [], _∷_}
 use native.Mathlib.Omega.{arith}
 use lib.Dec.{leb, eqb}
-use borrow.Author.Tests.{eqb-true, eqb-false, eq-eqb, ne-eqb, leb-true, le-leb, lt-leb, not-true}
+use lib.ListN.{getD}
+use borrow.Author.Tests.{eqb-true, eqb-false, eq-eqb, ne-eqb, leb-true, le-leb, lt-leb, not-true, not-false}
 use Rattle.route.specs.Rule.{span}
-use Rattle.tcam.specs.Slots.{Cell, isFree, lengthIn, hopIn, keepsS1}
-use Rattle.route.proofs.Tests.{and-parts, all-three, or-right, is-false}
+use Rattle.route.specs.Limits.{maxHop}
+use Rattle.route.specs.Refusals.{fine, faultIf, prefixFault, hopFault, imageRefusal}
+use Rattle.tcam.specs.Slots.{Cell, cell, free, tagOf, isFree, lengthIn, hopIn, keepsS1, slotFault}
+use Rattle.route.proofs.Tests.{and-parts, all-three, or-right, is-false, inTurn, passed}
+use Rattle.route.proofs.Accepted.{prefix-good, hop-good}
 
 module _ (W : ℕ) (c : Cell) where
   -- a used slot that keeps S1 has a length of at most W and a hop
@@ -52,3 +58,31 @@ module _ (W : ℕ) (c : Cell) where
 
     pub valid-short : lengthIn c ≤ W → eqb (c .address % span W (lengthIn c)) 0 ≡ keepsS1 W c
     valid-short l = by-length (le-leb (lengthIn c) W l)
+
+-- each slot of an image without a fault keeps S1; past its end a slot is read as free
+pub slot-keeps : (W i : ℕ) (cs : List Cell) (s : ℕ) → slotFault W i cs ≡ fine → keepsS1 W (getD cs s free) ≡ true
+slot-keeps W i [] s f = refl
+slot-keeps W i (c ∷ cs) zero f = not-false _ (passed _ _ _ (inTurn (faultIf (not (keepsS1 W c)) imageRefusal i) _ f .0))
+slot-keeps W i (c ∷ cs) (suc s) f = slot-keeps W (i + 1) cs s (inTurn (faultIf (not (keepsS1 W c)) imageRefusal i) _ f .1)
+
+-- the entry of a prefix and a hop that are not refused
+module _ (W a n : ℕ) (f : prefixFault W 0 a n ≡ fine) (h : ℕ) (g : hopFault 0 h ≡ fine) where
+  abbrev entry : Cell
+  entry = cell a (tagOf n h)
+
+  hop : (0 < h) × (h ≤ maxHop)
+  hop = hop-good 0 h g
+
+  pub entry-length : lengthIn entry ≡ n
+  entry-length = omega (arith, hop)
+
+  pub entry-hop : hopIn entry ≡ h
+  entry-hop = omega (arith, hop)
+
+  pub entry-used : isFree entry ≡ false
+  entry-used = is-false (isFree entry) (λ e. omega (arith, hop, eqb-true (tagOf n h) 0 (and-parts (eqb a 0) (eqb (tagOf n h) 0) e .1)))
+
+  pub entry-keeps : keepsS1 W entry ≡ true
+  entry-keeps =
+      let p = prefix-good W 0 a n f in
+      rw (entry-used, entry-length, le-leb n W (p .0), eq-eqb (a % span W n) 0 (p .1), entry-hop, ne-eqb h 0 (λ e. omega (arith, hop)))

@@ -1,5 +1,5 @@
 -- The chain of copies: how many writes it has, and the loops that count and put them.
-use Prim.Native.Nat.{ℕ, zero, suc, _+_, _-_, _*_, _≤_, _<_}
+use Prim.Native.Nat.{ℕ, zero, suc, _+_, _*_, _≤_, _<_}
 use mathlib.Core.Path.{_≡_, refl, sym, ap, _∙_}
 use mathlib.Core.Bool.{Bool, true, false, cond}
 use mathlib.Core.List.{List, [], _∷_}
@@ -32,17 +32,27 @@ last-bound p i s (c ∷ cs) e = go (last-bound p (i + 1) s cs) (lastSlot p (i + 
     go ih none f false g = let z : none ≡ some s = rw (f, g) at e in let y : _≡_ {A = ℕ} 0 1 = cc in omega arith
     go ih (some x) f b g = let z : some x ≡ some s = rw f at e in let y : s < i + 1 + length cs = ih (f ∙ z) in omega arith
 
-pub edge-bound : (up : Bool) (p : Cell → Bool) (ad ts : List ℕ) → length ad ≡ length ts → (s : ℕ) → some s ≡ edge up p (cells ad ts) → s < length ad
-edge-bound true p ad ts e s f = omega (arith, first-bound p 0 s (cells ad ts) (sym f), length-cells ad ts e)
-edge-bound false p ad ts e s f = omega (arith, last-bound p 0 s (cells ad ts) (sym f), length-cells ad ts e)
+abbrev pub FoundIn : List Cell → Option ℕ → Type 0
+FoundIn cs o = (s : ℕ) → some s ≡ o → s < length cs
 
-pub open-bound : (up : Bool) (p : Cell → Bool) (ad ts : List ℕ) → length ad ≡ length ts → (s : ℕ) → s < length ad →
-    openAfter s (edge up p (cells ad ts)) < length ad
-open-bound up p ad ts e s l = go (edge up p (cells ad ts)) (edge-bound up p ad ts e)
+pub edge-within : (up : Bool) (p : Cell → Bool) (cs : List Cell) → FoundIn cs (edge up p cs)
+edge-within true p cs s e = omega (arith, first-bound p 0 s cs (sym e))
+edge-within false p cs s e = omega (arith, last-bound p 0 s cs (sym e))
+
+pub open-within : (up : Bool) (p : Cell → Bool) (cs : List Cell) (s : ℕ) → s < length cs → openAfter s (edge up p cs) < length cs
+open-within up p cs s l = go (edge up p cs) (edge-within up p cs)
   where
-    go : (o : Option ℕ) → ((t : ℕ) → some t ≡ o → t < length ad) → openAfter s o < length ad
+    go : (o : Option ℕ) → FoundIn cs o → openAfter s o < length cs
     go none h = l
     go (some t) h = h t refl
+
+-- and of its rows
+module _ (up : Bool) (p : Cell → Bool) (ad ts : List ℕ) (e : length ad ≡ length ts) (s : ℕ) where
+  pub edge-bound : some s ≡ edge up p (cells ad ts) → s < length ad
+  edge-bound f = omega (arith, edge-within up p (cells ad ts) s f, length-cells ad ts e)
+
+  pub open-bound : s < length ad → openAfter s (edge up p (cells ad ts)) < length ad
+  open-bound l = rw (length-cells ad ts e) at (open-within up p (cells ad ts) s (rw (length-cells ad ts e) l))
 
 -- one write for each length with an edge slot, and the last
 length-chain : (edge : ℕ → Option ℕ) (cs : List Cell) (ls : List ℕ) (at : ℕ) (c : Cell) → length (chain edge cs ls at c) ≡ moves edge ls + 1

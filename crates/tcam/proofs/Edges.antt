@@ -6,7 +6,7 @@ use Prim.Native.Nat.{ℕ, zero, suc, _+_, _-_, _≤_, _<_}
 use mathlib.Core.Path.{_≡_, refl, sym, ap, _∙_}
 use mathlib.Core.Logic.{_≢_}
 use mathlib.Core.Bool.{Bool, true, false, cond, not, _&&_}
-use mathlib.Core.List.{List, [], _∷_}
+use mathlib.Core.List.{List}
 use mathlib.Core.Option.{Option, none, some}
 use native.Mathlib.Omega.{arith}
 use native.Mathlib.Numerals.{add-one}
@@ -14,14 +14,13 @@ use native.Mathlib.Nat.{sub-zero}
 use lib.Dec.{eqb}
 use lib.ListN.{length, getD, drop, drop-of-length-le, set, length-set, replicate, length-replicate}
 use lib.Seq.{drop-length, getD-set-same, getD-set-other}
-use borrow.Author.Tests.{eqb-true, eqb-false, eq-eqb, ne-eqb, not-false}
-use Rattle.route.specs.Refusals.{fine, faultIf, imageRefusal}
-use Rattle.tcam.specs.Slots.{Cell, cell, cells, isFree, lengthIn, keepsS1, slotFault}
+use borrow.Author.Tests.{eqb-true, eqb-false, eq-eqb, ne-eqb}
+use Rattle.route.specs.Refusals.{fine}
+use Rattle.tcam.specs.Slots.{Cell, cells, isFree, lengthIn, keepsS1, slotFault}
 use Rattle.tcam.specs.Plans.{firstSlot, lastSlot, orElse, ofLength}
 use Rattle.tcam.specs.Loops.{cellAt, edge, slotIn, asSlot, classOf, EdgesOf, visited}
-use Rattle.route.proofs.Tests.{inTurn, passed}
-use Rattle.tcam.proofs.Rows.{cells-at}
-use Rattle.tcam.proofs.Cells.{used-short}
+use Rattle.tcam.proofs.Rows.{cells-at, getD-cells}
+use Rattle.tcam.proofs.Cells.{used-short, slot-keeps}
 
 -- no slot before slot i has the property
 pub record NoneFound (p : Cell → Bool) (ad ts : List ℕ) (i : ℕ) : Type 0 where
@@ -112,14 +111,10 @@ class-free W c k = go (isFree c) (used-short W c k)
     go true h = eq-eqb (W + 1) (W + 1) refl
     go false h = let s = h refl in ne-eqb (lengthIn c) (W + 1) (λ e. omega arith)
 
--- each slot of an image without a fault keeps S1
-keeps-at : (W : ℕ) (ad ts : List ℕ) → length ad ≡ length ts → (j i : ℕ) → slotFault W j (cells ad ts) ≡ fine → i < length ad → keepsS1 W (cellAt ad ts i) ≡ true
-keeps-at W [] ts e j i f l = absurd (omega arith)
-keeps-at W (a ∷ ad) [] e j i f l = absurd (omega arith)
-keeps-at W (a ∷ ad) (t ∷ ts) e j zero f l =
-    not-false _ (passed _ _ _ (inTurn (faultIf (not (keepsS1 W (cell a t))) imageRefusal j) _ f .0))
-keeps-at W (a ∷ ad) (t ∷ ts) e j (suc i) f l =
-    keeps-at W ad ts (omega arith) (j + 1) i (inTurn (faultIf (not (keepsS1 W (cell a t))) imageRefusal j) _ f .1) (omega arith)
+-- each slot of rows without a fault keeps S1
+keeps-at : (W : ℕ) (ad ts : List ℕ) → length ad ≡ length ts → (i : ℕ) → slotFault W 0 (cells ad ts) ≡ fine → i < length ad →
+    keepsS1 W (cellAt ad ts i) ≡ true
+keeps-at W ad ts e i f l = rw (getD-cells ad ts i e l) at (slot-keeps W 0 (cells ad ts) i f)
 
 -- k slots were visited: the row has, for each class, the last one found among them
 pub record EdgesAmong (W : ℕ) (up : Bool) (ad ts row : List ℕ) (k : ℕ) : Type 0 where
@@ -151,7 +146,7 @@ module _ {W : ℕ} {up : Bool} {ad ts row : List ℕ} {k : ℕ} (h : EdgesAmong 
     class-below = rw e (go (isFree c) (used-short W c kept))
       where
         kept : keepsS1 W c ≡ true
-        kept = rw is (keeps-at W ad ts (h .equal) 0 s (h .keeps) (rw visits (visited-below up (length ad) k l)))
+        kept = rw is (keeps-at W ad ts (h .equal) s (h .keeps) (rw visits (visited-below up (length ad) k l)))
 
         go : (f : Bool) → (f ≡ false → lengthIn c ≤ W) → cond f (W + 1) (lengthIn c) < length row
         go true i = omega (arith, h .size)
@@ -182,7 +177,7 @@ module _ {W : ℕ} {up : Bool} {ad ts row : List ℕ} {k : ℕ} (h : EdgesAmong 
     of = λ m i. at-end m (omega arith) ∙ latest-agree up _ (ofLength m) (cellAt ad ts) (length ad) (length ad) (omega arith) (λ j b. class-length W m (cellAt ad ts j) i)
         ∙ latest-edge (ofLength m) ad ts (h .equal) up;
     pool = at-end (W + 1) (omega arith)
-        ∙ latest-agree up _ isFree (cellAt ad ts) (length ad) (length ad) (omega arith) (λ j b. class-free W (cellAt ad ts j) (keeps-at W ad ts (h .equal) 0 j (h .keeps) b))
+        ∙ latest-agree up _ isFree (cellAt ad ts) (length ad) (length ad) (omega arith) (λ j b. class-free W (cellAt ad ts j) (keeps-at W ad ts (h .equal) j (h .keeps) b))
         ∙ latest-edge isFree ad ts (h .equal) up;
   }
     where

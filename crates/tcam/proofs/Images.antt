@@ -1,5 +1,5 @@
 -- The image test: what is kept of the slots before slot i tells which rules it breaks, and the slots before it break none.
-use Prim.Native.Nat.{ℕ, _+_, _-_, _≤_, _<_}
+use Prim.Native.Nat.{ℕ, _+_, _-_, _≤_, _<_, min}
 use mathlib.Core.Path.{_≡_, refl, sym, ap, _∙_}
 use mathlib.Core.Bool.{Bool, true, false, cond, not, _&&_, _||_}
 use mathlib.Core.List.{List, [], _∷_}
@@ -7,7 +7,6 @@ use native.Mathlib.Omega.{arith}
 use native.Mathlib.Numerals.{add-one}
 use lib.Dec.{ltb}
 use lib.ListN.{length, drop, drop-of-length-le}
-use lib.Seq.{drop-length}
 use borrow.Author.Tests.{le-ltb}
 use Rattle.route.specs.Refusals.{fine, fault, imageRefusal}
 use Rattle.route.specs.Lists.{any}
@@ -15,7 +14,7 @@ use Rattle.route.specs.Loops.{before}
 use Rattle.tcam.specs.Slots.{Cell, cells, isFree, isUpper, lengthIn, keepsS1, longerThanNearest, samePrefixIn, breaks, imageFault, usedIn}
 use Rattle.tcam.specs.Loops.{cellAt, SeenBefore, SeenWith, misplacedBy}
 use Rattle.tcam.specs.declared.image.Seen.{Seen}
-use Rattle.tcam.proofs.Rows.{cells-at}
+use Rattle.tcam.proofs.Rows.{cells-at, cells-in-both, cells-past}
 use Rattle.tcam.proofs.Cells.{used-short}
 
 -- nothing stands before slot 0: no length is over W
@@ -94,12 +93,11 @@ module _ {W : ℕ} {ad ts : List ℕ} {s : Seen} {i : ℕ} (h : ImageBefore W ad
 
 -- so many of the slots from slot i on are used
 pub record UsedFrom (ad ts : List ℕ) (used i : ℕ) : Type 0 where
-  pub within : used + i ≤ length ad
-  pub equal : length ad ≡ length ts
+  pub within : used + i ≤ min (length ad) (length ts)
   pub right : used ≡ usedIn (cells (drop i ad) (drop i ts))
 
-pub used-start : {ad ts : List ℕ} → length ad ≡ length ts → UsedFrom ad ts 0 (length ad)
-used-start {ad} e = record { within = omega arith; equal = e; right = rw (drop-length ad) }
+pub used-start : {ad ts : List ℕ} {i : ℕ} → i ≡ min (length ad) (length ts) → UsedFrom ad ts 0 i
+used-start {ad} {ts} {i} e = record { within = omega arith; right = rw (cells-past ad ts i (omega arith)) }
 
 module _ {ad ts : List ℕ} {used i : ℕ} (h : UsedFrom ad ts used i) where
   pub used-turn : {c : Cell} {n : ℕ} → 0 < i → c ≡ cellAt ad ts (i - 1) → n ≡ cond (isFree c) 0 1 → n ≤ 1 → UsedFrom ad ts (used + n) (i - 1)
@@ -108,8 +106,7 @@ module _ {ad ts : List ℕ} {used i : ℕ} (h : UsedFrom ad ts used i) where
       let here = rw is at e in
       record {
         within = omega arith;
-        equal = h .equal;
-        right = rw (cells-at ad ts (i - 1) (h .equal) (omega (arith, h .within)), back) (omega (arith, here, h .right));
+        right = rw (cells-in-both ad ts (i - 1) (omega (arith, h .within)) (omega (arith, h .within)), back) (omega (arith, here, h .right));
       }
 
   pub used-end : i ≤ 0 → used ≡ usedIn (cells ad ts)

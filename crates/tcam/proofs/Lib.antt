@@ -10,5 +10,6 @@ pub mod Writes
 pub mod Runs
 pub mod Edges
 pub mod Chains
--- What a plan answers and leaves.
+-- What a plan answers and leaves, and that it can be applied.
 pub mod Planned
+pub mod Whole

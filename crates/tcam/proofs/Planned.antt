@@ -19,7 +19,7 @@ use Rattle.tcam.specs.Plans.{firstSlot, lastSlot, firstOf, lastOf, risin
 use Rattle.tcam.specs.Loops.{edge, edgeOf, run, runTo, lengthsOf, chainOf}
 use Rattle.tcam.specs.declared.plan.Run.{Run}
 
-length-numbers : (ws : List Write) → length (numbers ws) ≡ 3 * length ws
+pub length-numbers : (ws : List Write) → length (numbers ws) ≡ 3 * length ws
 length-numbers [] = refl
 length-numbers (w ∷ ws) = omega (arith, length-numbers ws)
 

@@ -1,8 +1,8 @@
 -- The loops over the first k writes of a plan: what each has done at write i, and that a turn keeps it.
 use Prim.Native.Nat.{ℕ, suc, _+_, _-_, _*_, _/_, _≤_, _<_}
-use mathlib.Core.Path.{_≡_, refl}
+use mathlib.Core.Path.{_≡_, refl, ap}
 use mathlib.Core.Bool.{true, false}
-use mathlib.Core.List.{List, [], _∷_}
+use mathlib.Core.List.{List, [], _∷_, _++_}
 use native.Mathlib.Omega.{arith}
 use native.Mathlib.Nat.{sub-zero}
 use native.Mathlib.Numerals.{add-one, add-two}
@@ -12,10 +12,15 @@ use lib.ListN.{length, take, drop, set, length-set}
 use lib.Seq.{drop-cons}
 use Rattle.route.specs.Refusals.{value, refused, fine, fault, faultIf, planRefusal}
 use Rattle.tcam.specs.Slots.{Cell}
-use Rattle.tcam.specs.Plans.{Write}
+use Rattle.tcam.specs.Plans.{Write, numbers}
 use Rattle.tcam.specs.Applies.{writesIn, isWrong, writeFault, stored, applyFault, IsApplied}
 use Rattle.tcam.specs.Loops.{writeAt}
 use Rattle.route.proofs.Tests.{inTurn, passed, or-parts}
+
+-- the writes that a row of numbers begins with are read back from it
+pub read-back : (ws : List Write) (row : List ℕ) → writesIn (numbers ws ++ row) ≡ ws ++ writesIn row
+read-back [] row = refl
+read-back (w ∷ ws) row = ap (λ (l : List Write). w ∷ l) (read-back ws row)
 
 -- the first k writes from write i on
 abbrev pub rest : ℕ → List ℕ → ℕ → List Write

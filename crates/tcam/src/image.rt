@@ -4,7 +4,7 @@
 // length, whether one is free, whether one is below the pool. S5 compares a used slot with those
 // before it, and only where it breaks none of the other rules.
 ghost use mathlib.Core.Path.{_≡_};
-ghost use Prim.Native.Nat.{_≤_, _<_};
+ghost use Prim.Native.Nat.{_≤_, _<_, min};
 ghost use mathlib.Core.List.{[]};
 ghost use lib.ListN.{length};
 ghost use Rattle.route.specs.Lists.{any};
@@ -115,13 +115,18 @@ fn image_check(addresses: &[u32], tags: &[u32]) -> Check
     Check::Fine
 }
 
-// How many slots are used.
-fn used_slots(addresses: &[u32], tags: &[u32]) -> usize
-    requires { ⌜ length (now addresses) ≡ length (now tags) ⌝ }
+fn lesser(m: usize, n: usize) -> usize
+    ensures { λ r. ⌜ r ≡ min m n ⌝ }
+{
+    if m < n { m } else { n }
+}
+
+// How many slots are used. The longer of two rows of unequal length has no slots past the shorter.
+pub fn used_slots(addresses: &[u32], tags: &[u32]) -> usize
     ensures { λ r. ⌜ r ≡ usedIn (cells (now (addresses .entry)) (now (tags .entry))) ⌝ }
 {
     let mut used = 0;
-    let mut i = addresses.len();
+    let mut i = lesser(addresses.len(), tags.len());
     while 0 < i {
         i -= 1;
         used += cell_at(addresses, tags, Slot(i)).uses();

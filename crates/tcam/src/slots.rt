@@ -124,7 +124,7 @@ impl Cell {
 
 // What slot i holds.
 pub(crate) fn cell_at(addresses: &[u32], tags: &[u32], i: Slot) -> Cell
-    requires { ⌜ (length (now addresses) ≡ length (now tags)) × (i .0 < length (now addresses)) ⌝ }
+    requires { ⌜ (i .0 < length (now addresses)) × (i .0 < length (now tags)) ⌝ }
     ensures { λ r. ⌜ cellOf r ≡ cellAt (now (addresses .entry)) (now (tags .entry)) (i .0) ⌝ }
 {
     let at = i.0;

@@ -1,4 +1,4 @@
--- From the table's end: `used` counts the used slots from slot i on. The measure is i.
+-- From the shorter row's end: `used` counts the used slots from slot i on. The measure is i.
 use borrow.Author.Needs.{needs}
 use Rattle.tcam.proofs.Images.{UsedFrom, used-start, used-turn, used-end}
 use Rattle.tcam.proofs.image.used_slots.Statement.{statement}
@@ -11,7 +11,7 @@ abbrev μ-loop : tie.MeasureT-loop
 μ-loop addresses tags used₀ i₀ used i = i
 
 loop-holds : tie.Need-loop-holds Inv-loop μ-loop
-loop-holds c = used-start (search needs)
+loop-holds c = used-start (c .lesser .ensures)
 
 loop-again : tie.Need-loop-again Inv-loop μ-loop
 loop-again c =
@@ -24,5 +24,5 @@ pub used-slots-spec : {M : Type 1} → statement M
 used-slots-spec =
     tie.close
     (tie.spec
-    Inv-loop μ-loop loop-holds (λ c. search needs) (λ c κs. search needs) (λ c κs. search needs)
-    (λ c. search needs) (λ c. search needs) loop-again returns)
+    Inv-loop μ-loop (λ c κs. search needs) loop-holds (λ c. search needs) (λ c κs. search needs)
+    (λ c κs. search needs) (λ c. search needs) (λ c. search needs) loop-again returns)

@@ -65,7 +65,7 @@ module _ (c : tie.After-known-told Inv-loop μ-loop) where
       (ap placeOf (c .before .edge .given .1))
 
 cell-at-requires : tie.Need-cell-at-requires Inv-loop μ-loop
-cell-at-requires c κs = (search needs, slot c)
+cell-at-requires c κs = (slot c, omega (arith, slot c, loop c .loop .inv .equal))
 
 put-write-requires : tie.Need-put-write-requires Inv-loop μ-loop
 put-write-requires c κs =
