@@ -34,3 +34,36 @@ refused-size nth refusal = simp length-append (omega arith)
 
 pub slot-size : (slot : ℕ) (r : Route) → length (slotLine slot r) ≡ size slot + length (routeText r) + 7
 slot-size slot r = simp length-append (omega arith)
+
+-- no line is longer than `maxLine`
+abbrev Fits : List ℕ → Type 0
+Fits text = length text ≤ maxLine
+
+route-most : (r : Route) → length (routeText r) ≤ 125
+route-most r =
+    let a = r .address in
+    omega (
+      arith,
+      route-size r,
+      prefix-size a (r .length),
+      quad-size a,
+      decimal-size (a / 2 ^ 24),
+      decimal-size (a / 2 ^ 16 % 256),
+      decimal-size (a / 2 ^ 8 % 256),
+      decimal-size (a % 256),
+      decimal-size (r .length),
+      decimal-size (r .hop),
+    )
+
+pub header-fits : (slots : ℕ) → Fits (headerLine slots)
+header-fits slots = omega (arith, header-size slots, decimal-size slots)
+
+pub update-fits : (nth : ℕ) (word : List ℕ) (r : Route) (writes used : ℕ) → length word ≤ 8 → Fits (updateLine nth word r writes used)
+update-fits nth word r writes used l =
+    omega (arith, update-size nth word r writes used, route-most r, decimal-size nth, decimal-size writes, decimal-size used)
+
+pub refused-fits : (nth refusal : ℕ) → Fits (refusedLine nth refusal)
+refused-fits nth refusal = omega (arith, refused-size nth refusal, decimal-size nth, decimal-size refusal)
+
+pub slot-fits : (slot : ℕ) (r : Route) → Fits (slotLine slot r)
+slot-fits slot r = omega (arith, slot-size slot r, route-most r, decimal-size slot)

@@ -1,6 +1,7 @@
--- Tests and verdicts, members of a list.
+-- Tests and verdicts, members of a list, parts of a row.
 pub mod Tests
 pub mod Members
+pub mod Parts
 -- Routes: spans, the longest match, which lists are accepted.
 pub mod Spans
 pub mod RouteSet

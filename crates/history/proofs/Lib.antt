@@ -1,0 +1,6 @@
+pub mod Updates
+pub mod Steps
+pub mod Stages
+pub mod Left
+pub mod Filling
+pub mod Whole

@@ -1,0 +1,64 @@
+-- One step: what is printed at each stage, and where it leads.
+use Prim.Native.Nat.{ℕ, _+_, _≤_, _<_}
+use mathlib.Core.Path.{_≡_, refl}
+use mathlib.Core.Bool.{true, false, _&&_}
+use mathlib.Core.List.{List, []}
+use lib.Dec.{leb}
+use lib.ListN.{length}
+use borrow.Author.Tests.{lt-ltb, le-ltb, leb-true}
+use Rattle.route.proofs.Tests.{and-parts}
+use Rattle.tcam.specs.Slots.{Cell, isFree}
+use Rattle.tcam.specs.Tables.{routeOf}
+use Rattle.tcam.specs.Loops.{cellAt}
+use Rattle.tcam.proofs.Rows.{getD-cells}
+use Rattle.records.specs.Records.{Update, update, ended, refusedAt, recordAt}
+use Rattle.lines.specs.Lines.{refusedLine, slotLine, endLine}
+use Rattle.history.specs.Reports.{Rows, slotText}
+use Rattle.history.specs.Steps.{IsPrinted, IsTold, Ready, IsStep}
+use Rattle.history.specs.declared.Stage.{Stage}
+use Rattle.history.specs.declared.Stage.the-variants.{Reading, Listing, Done}
+use Rattle.history.specs.declared.step.Stepped.{Stepped}
+
+abbrev pub stepped : ℕ → Stage → Stepped
+stepped n s = record { size = n; stage = s }
+
+pub nothing-printed : {buffer : List ℕ} → IsPrinted [] buffer 0 buffer
+nothing-printed = record { counts = refl; prints = refl }
+
+-- a reading stage of these bytes
+pub placed-parts : {bs : List ℕ} {n at : ℕ} {t : Rows} → Ready bs (Reading n at) t → (n ≤ at) × (at ≤ length bs)
+placed-parts {bs} {n} {at} r = let h = and-parts (leb n at) (leb at (length bs)) (r .placed) in (leb-true n at (h .0), leb-true at (length bs) (h .1))
+
+-- where nothing is printed: a free slot, the end of the input
+pub slot-free : (slot : ℕ) (c : Cell) {buffer : List ℕ} → isFree c ≡ true → IsPrinted (slotText slot c) buffer 0 buffer
+slot-free slot c e = rw e nothing-printed
+
+pub step-ended : (bs : List ℕ) (n at : ℕ) {t : Rows} {buffer : List ℕ} → ended ≡ recordAt 32 bs at →
+    IsStep bs (Reading n at) t buffer (stepped 0 (Listing 0)) t buffer
+step-ended bs n at e = record { stage = rw (← e); table = rw (← e); line = rw (← e) nothing-printed }
+
+module _ {buffer : List ℕ} {size : ℕ} {buffer′ : List ℕ} where
+  pub slot-used : (slot : ℕ) (c : Cell) → isFree c ≡ false → IsPrinted (slotLine slot (routeOf c)) buffer size buffer′ →
+      IsPrinted (slotText slot c) buffer size buffer′
+  slot-used slot c e l = rw e l
+
+  module _ (slot : ℕ) (t : Rows) where
+    pub step-slot : slot < length (t .addresses) → length (t .addresses) ≡ length (t .tags) →
+        IsPrinted (slotText slot (cellAt (t .addresses) (t .tags) slot)) buffer size buffer′ →
+        IsStep [] (Listing slot) t buffer (stepped size (Listing (slot + 1))) t buffer′
+    step-slot l e p =
+        let inside = lt-ltb slot (length (t .addresses)) l in
+        record { stage = rw inside; table = refl; line = rw (inside, getD-cells (t .addresses) (t .tags) slot e l) p }
+
+    pub step-end : length (t .addresses) ≤ slot → IsPrinted endLine buffer size buffer′ → IsStep [] (Listing slot) t buffer (stepped size Done) t buffer′
+    step-end l p = let past = le-ltb slot (length (t .addresses)) l in record { stage = rw past; table = refl; line = rw past p }
+
+  -- an update, and a record that cannot be read
+  module _ (bs : List ℕ) (n at : ℕ) {t : Rows} where
+    pub step-update : {u : Update} {next : ℕ} {t′ : Rows} → update u next ≡ recordAt 32 bs at → IsTold (n + 1) u t buffer size t′ buffer′ →
+        IsStep bs (Reading n at) t buffer (stepped size (Reading (n + 1) next)) t′ buffer′
+    step-update e told = record { stage = rw (← e); table = rw (← e) (told .table); line = rw (← e) (told .line) }
+
+    pub step-unreadable : {m q : ℕ} → refusedAt m q ≡ recordAt 32 bs at → IsPrinted (refusedLine (n + 1) m) buffer size buffer′ →
+        IsStep bs (Reading n at) t buffer (stepped size (Listing 0)) t buffer′
+    step-unreadable e p = record { stage = rw (← e); table = rw (← e); line = rw (← e) p }

@@ -1,0 +1,77 @@
+-- One update: its plan is refused and the table stays, or it is applied whole, which an accepted plan always can be; and its line is
+-- printed, for which there is room.
+use Prim.Native.Nat.{ℕ, _≤_}
+use mathlib.Core.Path.{_≡_, refl, sym, ap, _∙_}
+use mathlib.Core.List.{List}
+use native.Mathlib.Omega.{arith}
+use borrow.Author.Tests.{le-ltb}
+use lib.ListN.{length}
+use Rattle.route.specs.Refusals.{Answer, value, refused}
+use Rattle.tcam.specs.Slots.{usedIn}
+use Rattle.tcam.specs.Plans.{Write, Planned, refuses, writes, planAnswer, rowAfter}
+use Rattle.tcam.specs.Applies.{IsApplied}
+use Rattle.tcam.proofs.Whole.{AppliesWhole, set-applies, remove-applies}
+use Rattle.records.specs.Records.{Update, removal, setting}
+use Rattle.lines.specs.Lines.{refusedLine, maxLine, IsWritten}
+use Rattle.lines.proofs.Sizes.{update-fits}
+use Rattle.history.specs.Reports.{Rows, rows, slots, planRoom, planOf, after, madeText, updateText}
+use Rattle.history.specs.Steps.{sizeOf, IsPrinted, IsMade, IsTold}
+
+-- an accepted plan can be applied whole
+plan-applies : (t : Rows) (u : Update) (room : ℕ) {ws : List Write} → planOf t u room ≡ writes ws → (row : List ℕ) →
+    AppliesWhole 32 (t .addresses) (t .tags) ws row
+plan-applies t (setting r) room e row = set-applies 32 (t .addresses) (t .tags) (r .address) (r .length) (r .hop) room e row
+plan-applies t (removal a n) room e row = remove-applies 32 (t .addresses) (t .tags) a n room e row
+
+-- a plan that was refused, and one that was applied whole
+module _ (u : Update) (t : Rows) where
+  pub made-refused : {n q : ℕ} → refused n q ≡ planAnswer (planOf t u planRoom) → IsMade u t (refused n q) t
+  made-refused {n} {q} e = record { answers = e; table = stays (planOf t u planRoom) e }
+    where
+      stays : (p : Planned) → refused n q ≡ planAnswer p → t ≡ after t p
+      stays (refuses m r) e = refl
+      stays (writes ws) e = absurd (let z : _≡_ {A = ℕ} 0 1 = cc in omega arith)
+
+  pub made-applied : (row : List ℕ) {k : ℕ} {answer : Answer} {ad ts : List ℕ} → value k ≡ planAnswer (planOf t u planRoom) →
+      IsApplied 32 (t .addresses) (t .tags) (rowAfter (planOf t u planRoom) row) k answer ad ts → IsMade u t answer (rows ad ts)
+  made-applied row {k} {answer} {ad} {ts} v a =
+      let h = whole (planOf t u planRoom) refl v a in
+      record { answers = h .0; table = h .1 }
+    where
+      whole : (p : Planned) → planOf t u planRoom ≡ p → value k ≡ planAnswer p →
+          IsApplied 32 (t .addresses) (t .tags) (rowAfter p row) k answer ad ts → (answer ≡ planAnswer p) × (rows ad ts ≡ after t p)
+      whole (refuses m r) e v a = absurd (let z : _≡_ {A = ℕ} 0 1 = cc in omega arith)
+      whole (writes ws) e v a =
+          let w = plan-applies t u planRoom e row in
+          let same : k ≡ length ws = cc in
+          let a′ = rw same at a in
+          (a′ .answers ∙ rw (w .accepted), λ i. rows ((a′ .addresses ∙ w .addresses) i) ((a′ .tags ∙ w .tags) i))
+
+-- a line is printed where there is room for the longest one
+pub line-printed : {text buffer buffer′ : List ℕ} {a : Answer} {size : ℕ} → IsWritten text buffer a buffer′ → size ≡ sizeOf a →
+    length text ≤ maxLine → maxLine ≤ length buffer → IsPrinted text buffer size buffer′
+line-printed {text} {buffer} w s f l =
+    let e = le-ltb (length buffer) (length text) (omega arith) in
+    record { counts = s ∙ ap sizeOf (w .answers) ∙ rw e; prints = w .after ∙ rw e }
+
+pub made-fits : (nth : ℕ) (u : Update) (w used : ℕ) → length (madeText nth u w used) ≤ maxLine
+made-fits nth (setting r) w used = update-fits nth _ _ w used (omega arith)
+made-fits nth (removal a n) w used = update-fits nth _ _ w used (omega arith)
+
+-- the line of a refused update, and of one that was made
+module _ (nth : ℕ) {u : Update} {t t′ : Rows} {buffer : List ℕ} {size : ℕ} {buffer′ : List ℕ} where
+  pub told-refused : {n q : ℕ} → IsMade u t (refused n q) t′ → IsPrinted (refusedLine nth n) buffer size buffer′ → IsTold nth u t buffer size t′ buffer′
+  told-refused {n} {q} h l = record { table = h .table; line = rw (← (text (planOf t u planRoom) (h .answers))) l }
+    where
+      text : (p : Planned) → refused n q ≡ planAnswer p → refusedLine nth n ≡ updateText nth u p (after t p)
+      text (refuses m r) e = let same : n ≡ m = cc in rw same
+      text (writes ws) e = absurd (let z : _≡_ {A = ℕ} 0 1 = cc in omega arith)
+
+  pub told-made : {w used : ℕ} → IsMade u t (value w) t′ → used ≡ usedIn (slots t′) → IsPrinted (madeText nth u w used) buffer size buffer′ →
+      IsTold nth u t buffer size t′ buffer′
+  told-made {w} {used} h e l =
+      record { table = h .table; line = rw (← (text (planOf t u planRoom) (h .answers) (e ∙ ap (λ t. usedIn (slots t)) (h .table)))) l }
+    where
+      text : (p : Planned) → value w ≡ planAnswer p → used ≡ usedIn (slots (after t p)) → madeText nth u w used ≡ updateText nth u p (after t p)
+      text (refuses m r) v e = absurd (let z : _≡_ {A = ℕ} 0 1 = cc in omega arith)
+      text (writes ws) v e = let same : w ≡ length ws = cc in rw (same, e)

@@ -1,0 +1,32 @@
+-- The update is made; its line is that of a refusal, or of its writes and the slots that are used then.
+use borrow.Author.Needs.{needs}
+use Rattle.records.specs.Shown.{updateOf}
+use Rattle.lines.proofs.Sizes.{refused-fits}
+use Rattle.history.proofs.Updates.{told-refused, told-made, line-printed, made-fits}
+use Rattle.history.proofs.update.tell.Statement.{statement}
+use Rattle.history.proofs.update.tell.Tie as tie
+
+returns : tie.Need-returns
+returns c =
+    let l = c .before .before .before in
+    let f = l .before .before .before in
+    let m = f .before .before .before .before .before .before in
+    told-refused _ (rw (f .f .given .1) at (m .make .ensures))
+    (line-printed (l .refused .ensures) (c .size-of .ensures) (refused-fits _ _) (search needs))
+
+returns-2 : tie.Need-returns-2
+returns-2 c =
+    let l = c .before .before .before in
+    let u = l .before .before in
+    let w = u .before .before .before .before in
+    let m = w .before .before .before .before .before .before in
+    told-made _ (rw (w .writes .given .1) at (m .make .ensures)) (u .used-slots .ensures)
+    (line-printed (l .made-line .ensures) (c .size-of2 .ensures) (made-fits _ (updateOf (m .before .before .before .before .before .before .args .asked)) _ _) (search needs))
+
+pub tell-spec : {M : Type 1} → statement M
+tell-spec =
+    tie.close
+    (tie.spec
+    (λ c κs. search needs) (λ c. search needs) (λ c κs. search needs) (λ c κs. search needs) (λ c. search needs)
+    (λ c κs. search needs) (λ c κs. search needs) (λ c κs. search needs) (λ c. search needs) (λ c. search needs)
+    (λ c. search needs) returns (λ c. search needs) (λ c. search needs) (λ c. search needs) returns-2)

@@ -1,0 +1,78 @@
+// One update on the table: planned, applied whole, and told in a line.
+ghost use mathlib.Core.Path.{_≡_};
+ghost use Prim.Native.Nat.{_≤_};
+ghost use lib.ListN.{length};
+ghost use Rattle.route.specs.Shown.{counted};
+ghost use Rattle.records.specs.Shown.{updateOf};
+ghost use Rattle.tcam.specs.Plans.{IsPlanned};
+ghost use Rattle.lines.specs.Lines.{maxLine, IsWritten};
+ghost use Rattle.history.specs.Reports.{rows, planOf, madeText};
+ghost use Rattle.history.specs.Steps.{sizeOf, IsMade, IsTold};
+use lines::line;
+use records::Record;
+use route::Counted;
+use tcam::apply::apply;
+use tcam::image::used_slots;
+use tcam::plan::plan_remove;
+use tcam::plan::plan_set;
+
+// Plans what a record asks for.
+fn plan_of(asked: Record, addresses: &[u32], tags: &[u32], plan: &mut [u32]) -> Counted
+    ensures { λ r. ⌜ IsPlanned (planOf (rows (now (addresses .entry)) (now (tags .entry))) (updateOf asked) (length (now (plan .entry)))) (now (plan .entry)) (counted r) (now (plan .exit)) ⌝ }
+{
+    match asked {
+        Record::Set(p) => plan_set(addresses, tags, p.address, p.length, p.hop, plan),
+        Record::Remove(address, length) => plan_remove(addresses, tags, address, length, plan),
+    }
+}
+
+// Makes what a record asks for: the number of writes, or the plan's refusal with the table as it was.
+fn make(asked: Record, addresses: &mut [u32], tags: &mut [u32]) -> Counted
+    ensures { λ r. ⌜ IsMade (updateOf asked) (rows (now (addresses .entry)) (now (tags .entry))) (counted r) (rows (now (addresses .exit)) (now (tags .exit))) ⌝ }
+{
+    let mut plan = [0u32; 54];
+    match plan_of(asked, addresses, tags, &mut plan) {
+        Counted::Refused(f) => Counted::Refused(f),
+        Counted::Count(writes) => apply(addresses, tags, &plan, writes),
+    }
+}
+
+// The bytes of a line that was written.
+pub(crate) fn size_of(written: Counted) -> usize
+    ensures { λ r. ⌜ r ≡ sizeOf (counted written) ⌝ }
+{
+    match written {
+        Counted::Count(n) => n,
+        Counted::Refused(_) => 0,
+    }
+}
+
+// The line of an update that was made.
+fn made_line(nth: usize, asked: Record, writes: usize, used: usize, out: &mut [u8]) -> Counted
+    ensures { λ r. ⌜ IsWritten (madeText nth (updateOf asked) writes used) (now (out .entry)) (counted r) (now (out .exit)) ⌝ }
+{
+    match asked {
+        Record::Set(p) => line::set(nth, p, writes, used, out),
+        Record::Remove(address, length) => line::remove(nth, address, length, writes, used, out),
+    }
+}
+
+// Makes what a record asks for, and prints its line: the line's bytes.
+pub(crate) fn tell(
+    nth: usize,
+    asked: Record,
+    addresses: &mut [u32],
+    tags: &mut [u32],
+    out: &mut [u8],
+) -> usize
+    requires { ⌜ maxLine ≤ length (now out) ⌝ }
+    ensures { λ r. ⌜ IsTold nth (updateOf asked) (rows (now (addresses .entry)) (now (tags .entry))) (now (out .entry)) r (rows (now (addresses .exit)) (now (tags .exit))) (now (out .exit)) ⌝ }
+{
+    match make(asked, addresses, tags) {
+        Counted::Refused(f) => size_of(line::refused(nth, f, out)),
+        Counted::Count(writes) => {
+            let used = used_slots(addresses, tags);
+            size_of(made_line(nth, asked, writes, used, out))
+        }
+    }
+}

@@ -1,0 +1,17 @@
+-- A part of a row from a place up to its end.
+use Prim.Native.Nat.{ℕ, _-_}
+use mathlib.Core.Path.{_≡_}
+use mathlib.Core.List.{List, _++_, append-nil}
+use native.Mathlib.Omega.{arith}
+use borrow.Rule.Slice.PartMut.{midOf, putMid}
+use lib.ListN.{length, take, drop, length-drop, drop-of-length-le}
+use lib.Seq.{take-all}
+
+-- it is all from its start on; and the row with another such part put back
+pub part-tail : (a : ℕ) (xs : List ℕ) → midOf a (length xs - a) xs ≡ drop a xs
+part-tail a xs = take-all (length xs - a) (drop a xs) (simp length-drop (omega arith))
+
+pub put-tail : (a : ℕ) (xs ys : List ℕ) → putMid a (length xs - a) xs ys ≡ take a xs ++ ys
+put-tail a xs ys =
+    let e = drop-of-length-le (drop a xs) {i = length xs - a} (simp length-drop (omega arith)) in
+    rw (e, append-nil ys)
