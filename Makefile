@@ -1,9 +1,14 @@
+# report: the report of standard input, or of the board example where that is no file and no pipe
 # test: prove and test everything; the last line says how many passed
 # lib: target/staticlib/libhawkmortar.a, for Rust or C to link
+# records: rust/target/release/records, which turns lines into update records and back
 # bench: the proved code beside plain Rust
 # fmt: lay out every file
 
-.PHONY: test lib bench fmt
+.PHONY: report test lib records bench fmt
+
+report:
+	@scripts/report
 
 test:
 	@scripts/test
@@ -11,8 +16,12 @@ test:
 lib:
 	rt staticlib hawkmortar
 
+records: lib
+	cd rust && cargo build --offline --release --quiet -p hawkmortar --bin records
+
 bench: lib
-	cd rust && cargo run --offline --release --quiet -p bench
+	rt check report
+	cd rust && cargo run --offline --release --quiet -p bench --bin bench
 
 fmt:
 	rt fmt

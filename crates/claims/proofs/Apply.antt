@@ -25,7 +25,7 @@ set-map part [] i c = refl
 set-map part (d ∷ ds) zero c = refl
 set-map part (d ∷ ds) (suc i) c = ap (λ (l : List ℕ). part d ∷ l) (set-map part ds i c)
 
-stored-map : (part : Cell → ℕ) (cs : List Cell) (ws : List Write) → stored part (map part cs) ws ≡ map part (written cs ws)
+pub stored-map : (part : Cell → ℕ) (cs : List Cell) (ws : List Write) → stored part (map part cs) ws ≡ map part (written cs ws)
 stored-map part cs [] = refl
 stored-map part cs (w ∷ ws) =
     ap (λ (l : List ℕ). stored part l ws) (set-map part cs (w .slot) (w .cell)) ∙ stored-map part (set cs (w .slot) (w .cell)) ws

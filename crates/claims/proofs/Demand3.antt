@@ -94,10 +94,13 @@ empty-ok W M = record {
 pub empty-is : (W M : ℕ) → replicate M free ≡ bookImage W M emptyBook
 empty-is W M = rw (no-rows (falling (W - W / 2 + 1) (W / 2)), no-rows (falling (W + 1) 0), no-rows (falling (W / 2) 0), sub-zero, append-nil)
 
-pub no-routes : (M : ℕ) → routesIn (replicate M free) ≡ []
+no-routes : (M : ℕ) → routesIn (replicate M free) ≡ []
 no-routes zero = refl
 no-routes (suc M) = no-routes M
 
+pub empty-same : (W M : ℕ) → Same (routesIn (bookImage W M emptyBook)) []
+empty-same W M = rw (← (empty-is W M), no-routes M) (record { often = λ r. refl })
+
 pub demand3 : (W : ℕ) → Demand3 W
 demand3 W M i j cs = safe W M i j cs .idles _
-    (record { isImage = empty-is W M; ok = empty-ok W M; same = rw (← (empty-is W M), no-routes M) (record { often = λ r. refl }) })
+    (record { isImage = empty-is W M; ok = empty-ok W M; same = empty-same W M })

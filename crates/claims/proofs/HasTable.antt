@@ -33,7 +33,7 @@ use Rattle.claims.proofs.Entry.{cellOf}
 use Rattle.claims.proofs.HasPrefix.{set-has}
 use Rattle.claims.proofs.NewEntry.{new-entry, joins, same-joins}
 use Rattle.claims.proofs.Answer.{image-table}
-use Rattle.claims.proofs.Demand3.{empty-ok, empty-is, no-routes}
+use Rattle.claims.proofs.Demand3.{empty-ok, empty-is, empty-same}
 
 -- the book of a set, with a free slot for each route that M leaves
 record Filled (W M : ℕ) (rs : List Route) : Type 0 where
@@ -104,7 +104,7 @@ filled : (W M : ℕ) (rs : List Route) → ((r : Route) → List·Memᴰ r rs �
 filled W M [] v d le = record {
   book = emptyBook;
   ok = empty-ok W M;
-  same = rw (← (empty-is W M), no-routes M) (record { often = λ r. refl });
+  same = empty-same W M;
   left = rw (← (empty-is W M)) (omega (arith, free-times M));
 }
 filled W M (r ∷ rs) v d le =

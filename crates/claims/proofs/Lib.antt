@@ -39,3 +39,6 @@ pub mod RemoveCall
 pub mod Demand3
 -- a set has a table
 pub mod HasTable
+-- the report from the book
+pub mod ReportOfBook
+pub mod Example

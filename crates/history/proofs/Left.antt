@@ -17,7 +17,7 @@ use Rattle.records.specs.Records.{Update, Reply, update, ended, refusedAt, reco
 use Rattle.records.proofs.Places.{ahead}
 use Rattle.lines.specs.Lines.{headerLine, endLine, tooLongLine}
 use Rattle.history.specs.Reports.{Rows, slots, maxInput, reportSlots, emptyRows, toldText, slotText, slotTexts, Item, asks, itemsBy, items, history, report}
-use Rattle.history.specs.Stages.{startOf, stepText, stepTo, left, recordText, behindRecord}
+use Rattle.history.specs.Stages.{slotAt, startOf, stepText, stepTo, left, recordText, behindRecord}
 use Rattle.history.specs.Steps.{Ready}
 use Rattle.history.specs.declared.Stage.{Stage}
 use Rattle.history.specs.declared.Stage.the-variants.{TooLong, Header, Reading, Listing, Done}
@@ -71,16 +71,16 @@ module _ (bs : List ℕ) where
 
   -- a slot's line, and those of the slots behind it
   listed-left : (slot : ℕ) (t : Rows) → length (t .addresses) ≡ length (t .tags) →
-      left bs (Listing slot) t ≡ stepText bs (Listing slot) t ++ left bs (stepTo bs (Listing slot) t .stage) t
+      left bs (Listing (slotAt slot)) t ≡ stepText bs (Listing (slotAt slot)) t ++ left bs (stepTo bs (Listing (slotAt slot)) t .stage) t
   listed-left slot t e = byTest (ltb slot (length (t .addresses))) inside past
     where
-      inside : ltb slot (length (t .addresses)) ≡ true → left bs (Listing slot) t ≡ stepText bs (Listing slot) t ++ left bs (stepTo bs (Listing slot) t .stage) t
+      inside : ltb slot (length (t .addresses)) ≡ true → left bs (Listing (slotAt slot)) t ≡ stepText bs (Listing (slotAt slot)) t ++ left bs (stepTo bs (Listing (slotAt slot)) t .stage) t
       inside b =
           let l : slot < length (slots t) = omega (arith, ltb-true slot (length (t .addresses)) b, length-cells (t .addresses) (t .tags) e) in
           let e : drop slot (slots t) ≡ getD (slots t) slot free ∷ drop (slot + 1) (slots t) = rw (add-one slot) (drop-cons (slots t) slot free l) in
           rw (b, e) (append-assoc (slotText slot (getD (slots t) slot free)) _ endLine)
 
-      past : ltb slot (length (t .addresses)) ≡ false → left bs (Listing slot) t ≡ stepText bs (Listing slot) t ++ left bs (stepTo bs (Listing slot) t .stage) t
+      past : ltb slot (length (t .addresses)) ≡ false → left bs (Listing (slotAt slot)) t ≡ stepText bs (Listing (slotAt slot)) t ++ left bs (stepTo bs (Listing (slotAt slot)) t .stage) t
       past b =
           let l : length (slots t) ≤ slot = omega (arith, ltb-false slot (length (t .addresses)) b, length-cells (t .addresses) (t .tags) e) in
           rw (b, drop-of-length-le (slots t) l)
@@ -89,7 +89,7 @@ module _ (bs : List ℕ) where
   step-left TooLong t r = sym (append-nil tooLongLine)
   step-left Header t r = rw sub-zero
   step-left (Reading n at) t r = rw (items-at at (placed-parts r .1)) (read-left n at t (recordAt 32 bs at))
-  step-left (Listing slot) t r = listed-left slot t (r .equal)
+  step-left (Listing slot) t r = listed-left (slot .0) t (r .equal)
   step-left Done t r = refl
 
   -- all of the report is left at its start

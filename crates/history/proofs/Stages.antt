@@ -18,7 +18,7 @@ use Rattle.records.proofs.Places.{ahead}
 use Rattle.lines.specs.Lines.{slotLine, endLine, maxLine}
 use Rattle.lines.proofs.Sizes.{header-fits, refused-fits, slot-fits}
 use Rattle.history.specs.Reports.{Rows, slots, planRoom, planOf, after, updateText}
-use Rattle.history.specs.Stages.{isDone, isStageOf, stepText, stepTo, stepsLeft, recordText, behindRecord}
+use Rattle.history.specs.Stages.{slotAt, isDone, isStageOf, stepText, stepTo, stepsLeft, recordText, behindRecord}
 use Rattle.history.specs.Steps.{Ready}
 use Rattle.history.specs.declared.Stage.{Stage}
 use Rattle.history.specs.declared.Stage.the-variants.{TooLong, Header, Reading, Listing, Done}
@@ -67,9 +67,9 @@ step-placed bs (Reading n at) t r = go (recordAt 32 bs at) refl
         both (leb (n + 1) next) (leb next (length bs)) (le-leb (n + 1) next (omega (arith, p .0, h .behind))) (le-leb next (length bs) (h .within))
     go ended e = refl
     go (refusedAt m p) e = refl
-step-placed bs (Listing slot) t r = go (ltb slot (length (t .addresses)))
+step-placed bs (Listing slot) t r = go (ltb (slot .0) (length (t .addresses)))
   where
-    go : (b : Bool) → isStageOf (length bs) (cond b (Listing (slot + 1)) Done) ≡ true
+    go : (b : Bool) → isStageOf (length bs) (cond b (Listing (slotAt (slot .0 + 1))) Done) ≡ true
     go true = refl
     go false = refl
 step-placed bs Done t r = refl
@@ -92,7 +92,7 @@ step-falls bs (Reading n at) t r d = go (recordAt 32 bs at) refl
     go ended e = omega arith
     go (refusedAt m p) e = omega arith
 step-falls bs (Listing slot) t r d =
-    byTest (ltb slot (length (t .addresses))) (λ e. rw e (omega (arith, ltb-true slot (length (t .addresses)) e))) (λ e. rw e (omega arith))
+    byTest (ltb (slot .0) (length (t .addresses))) (λ e. rw e (omega (arith, ltb-true (slot .0) (length (t .addresses)) e))) (λ e. rw e (omega arith))
 step-falls bs Done t r d = let z : _≡_ {A = ℕ} 0 1 = cc in absurd (omega arith)
 
 -- a step prints one line at most
@@ -109,10 +109,10 @@ step-fits bs (Reading n at) t = go (recordAt 32 bs at)
     go (update u next) = told-fits (n + 1) u (planOf t u planRoom) _
     go ended = omega arith
     go (refusedAt m p) = refused-fits (n + 1) m
-step-fits bs (Listing slot) t = go (ltb slot (length (t .addresses))) (isFree (getD (slots t) slot free))
+step-fits bs (Listing slot) t = go (ltb (slot .0) (length (t .addresses))) (isFree (getD (slots t) (slot .0) free))
   where
-    go : (b f : Bool) → length (cond b (cond f [] (slotLine slot (routeOf (getD (slots t) slot free)))) endLine) ≤ maxLine
+    go : (b f : Bool) → length (cond b (cond f [] (slotLine (slot .0) (routeOf (getD (slots t) (slot .0) free)))) endLine) ≤ maxLine
     go true true = omega arith
-    go true false = slot-fits slot (routeOf (getD (slots t) slot free))
+    go true false = slot-fits (slot .0) (routeOf (getD (slots t) (slot .0) free))
     go false f = omega arith
 step-fits bs Done t = omega arith

@@ -14,6 +14,7 @@ use Rattle.tcam.proofs.Rows.{getD-cells}
 use Rattle.records.specs.Records.{Update, update, ended, refusedAt, recordAt}
 use Rattle.lines.specs.Lines.{refusedLine, slotLine, endLine}
 use Rattle.history.specs.Reports.{Rows, slotText}
+use Rattle.history.specs.Stages.{slotAt}
 use Rattle.history.specs.Steps.{IsPrinted, IsTold, Ready, IsStep}
 use Rattle.history.specs.declared.Stage.{Stage}
 use Rattle.history.specs.declared.Stage.the-variants.{Reading, Listing, Done}
@@ -34,7 +35,7 @@ pub slot-free : (slot : ℕ) (c : Cell) {buffer : List ℕ} → isFree c ≡ tru
 slot-free slot c e = rw e nothing-printed
 
 pub step-ended : (bs : List ℕ) (n at : ℕ) {t : Rows} {buffer : List ℕ} → ended ≡ recordAt 32 bs at →
-    IsStep bs (Reading n at) t buffer (stepped 0 (Listing 0)) t buffer
+    IsStep bs (Reading n at) t buffer (stepped 0 (Listing (slotAt 0))) t buffer
 step-ended bs n at e = record { stage = rw (← e); table = rw (← e); line = rw (← e) nothing-printed }
 
 module _ {buffer : List ℕ} {size : ℕ} {buffer′ : List ℕ} where
@@ -45,12 +46,12 @@ module _ {buffer : List ℕ} {size : ℕ} {buffer′ : List ℕ} where
   module _ (slot : ℕ) (t : Rows) where
     pub step-slot : slot < length (t .addresses) → length (t .addresses) ≡ length (t .tags) →
         IsPrinted (slotText slot (cellAt (t .addresses) (t .tags) slot)) buffer size buffer′ →
-        IsStep [] (Listing slot) t buffer (stepped size (Listing (slot + 1))) t buffer′
+        IsStep [] (Listing (slotAt slot)) t buffer (stepped size (Listing (slotAt (slot + 1)))) t buffer′
     step-slot l e p =
         let inside = lt-ltb slot (length (t .addresses)) l in
         record { stage = rw inside; table = refl; line = rw (inside, getD-cells (t .addresses) (t .tags) slot e l) p }
 
-    pub step-end : length (t .addresses) ≤ slot → IsPrinted endLine buffer size buffer′ → IsStep [] (Listing slot) t buffer (stepped size Done) t buffer′
+    pub step-end : length (t .addresses) ≤ slot → IsPrinted endLine buffer size buffer′ → IsStep [] (Listing (slotAt slot)) t buffer (stepped size Done) t buffer′
     step-end l p = let past = le-ltb slot (length (t .addresses)) l in record { stage = rw past; table = refl; line = rw past p }
 
   -- an update, and a record that cannot be read
@@ -60,5 +61,5 @@ module _ {buffer : List ℕ} {size : ℕ} {buffer′ : List ℕ} where
     step-update e told = record { stage = rw (← e); table = rw (← e) (told .table); line = rw (← e) (told .line) }
 
     pub step-unreadable : {m q : ℕ} → refusedAt m q ≡ recordAt 32 bs at → IsPrinted (refusedLine (n + 1) m) buffer size buffer′ →
-        IsStep bs (Reading n at) t buffer (stepped size (Listing 0)) t buffer′
+        IsStep bs (Reading n at) t buffer (stepped size (Listing (slotAt 0))) t buffer′
     step-unreadable e p = record { stage = rw (← e); table = rw (← e); line = rw (← e) p }

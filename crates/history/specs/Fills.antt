@@ -66,8 +66,11 @@ fillBy fine q t buffer = record {
   buffer = q .text ++ drop (length (q .text)) buffer;
 }
 
+abbrev pub fillWith : Verdict → List ℕ → Stage → Rows → List ℕ → Fill
+fillWith v bs s t buffer = fillBy v (part bs (length buffer) s t) t buffer
+
 abbrev pub fillOf : List ℕ → Stage → Rows → List ℕ → Fill
-fillOf bs s t buffer = fillBy (stageFault bs s t) (part bs (length buffer) s t) t buffer
+fillOf bs s t buffer = fillWith (stageFault bs s t) bs s t buffer
 
 pub record IsFill (f : Fill) (answer : FillAnswer) (t′ : Rows) (buffer′ : List ℕ) : Type 0 where
   pub answers : answer ≡ f .answer

@@ -8,8 +8,12 @@ use Rattle.tcam.specs.Slots.{free}
 use Rattle.records.specs.Records.{Reply, update, ended, refusedAt, recordAt}
 use Rattle.lines.specs.Lines.{headerLine, refusedLine, endLine, tooLongLine}
 use Rattle.history.specs.Reports.{maxInput, Rows, slots, afterUpdate, toldText, slotText, slotTexts, items, history}
+use Rattle.route.specs.declared.Slot.{Slot}
 use Rattle.history.specs.declared.Stage.{Stage}
 use Rattle.history.specs.declared.Stage.the-variants.{TooLong, Header, Reading, Listing, Done}
+
+abbrev pub slotAt : ℕ → Slot
+slotAt i = record { 0 = i }
 
 -- where the report of so many bytes starts
 abbrev pub startOf : ℕ → Stage
@@ -46,15 +50,15 @@ recordText nth t (refusedAt n p) = refusedLine nth n
 
 abbrev pub behindRecord : ℕ → Rows → Reply → Run
 behindRecord nth t (update u next) = run (Reading nth next) (afterUpdate t u)
-behindRecord nth t ended = run (Listing 0) t
-behindRecord nth t (refusedAt n p) = run (Listing 0) t
+behindRecord nth t ended = run (Listing (slotAt 0)) t
+behindRecord nth t (refusedAt n p) = run (Listing (slotAt 0)) t
 
 -- what a step prints: one line, or nothing
 abbrev pub stepText : List ℕ → Stage → Rows → List ℕ
 stepText bs TooLong t = tooLongLine
 stepText bs Header t = headerLine (length (t .addresses))
 stepText bs (Reading read at) t = recordText (read + 1) t (recordAt 32 bs at)
-stepText bs (Listing slot) t = cond (ltb slot (length (t .addresses))) (slotText slot (getD (slots t) slot free)) endLine
+stepText bs (Listing slot) t = cond (ltb (slot .0) (length (t .addresses))) (slotText (slot .0) (getD (slots t) (slot .0) free)) endLine
 stepText bs Done t = []
 
 -- and where it leads
@@ -62,7 +66,7 @@ abbrev pub stepTo : List ℕ → Stage → Rows → Run
 stepTo bs TooLong t = run Done t
 stepTo bs Header t = run (Reading 0 0) t
 stepTo bs (Reading read at) t = behindRecord (read + 1) t (recordAt 32 bs at)
-stepTo bs (Listing slot) t = run (cond (ltb slot (length (t .addresses))) (Listing (slot + 1)) Done) t
+stepTo bs (Listing slot) t = run (cond (ltb (slot .0) (length (t .addresses))) (Listing (slotAt (slot .0 + 1))) Done) t
 stepTo bs Done t = run Done t
 
 -- what is left to print
@@ -70,7 +74,7 @@ abbrev pub left : List ℕ → Stage → Rows → List ℕ
 left bs TooLong t = tooLongLine
 left bs Header t = headerLine (length (t .addresses)) ++ history 1 t (items (length bs) bs 0)
 left bs (Reading read at) t = history (read + 1) t (items (length bs - at) bs at)
-left bs (Listing slot) t = slotTexts slot (drop slot (slots t)) ++ endLine
+left bs (Listing slot) t = slotTexts (slot .0) (drop (slot .0) (slots t)) ++ endLine
 left bs Done t = []
 
 -- at most so many steps are left, for so many bytes and M slots
@@ -78,5 +82,5 @@ abbrev pub stepsLeft : ℕ → ℕ → Stage → ℕ
 stepsLeft size M TooLong = 1
 stepsLeft size M Header = 3 + (size + M)
 stepsLeft size M (Reading read at) = 2 + (size - at + M)
-stepsLeft size M (Listing slot) = 1 + (M - slot)
+stepsLeft size M (Listing slot) = 1 + (M - slot .0)
 stepsLeft size M Done = 0

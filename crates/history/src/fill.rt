@@ -1,10 +1,9 @@
 // A part of a report: as many lines as a lent buffer has room for.
 ghost use mathlib.Core.Path.{_≡_};
-ghost use lib.ListN.{length};
 ghost use Rattle.route.specs.Refusals.{fine};
 ghost use Rattle.history.specs.Reports.{rows};
 ghost use Rattle.history.specs.Stages.{isStageOf};
-ghost use Rattle.history.specs.Fills.{part, fillAnswer, fillBy, fillOf, IsFill};
+ghost use Rattle.history.specs.Fills.{fillAnswer, fillWith, fillOf, IsFill};
 ghost use Rattle.history.specs.Steps.{Ready};
 use crate::Stage;
 use crate::step::step;
@@ -41,7 +40,10 @@ fn fill_lines(
     out: &mut [u8],
 ) -> Filled
     requires { ⌜ Ready (now bytes) stage (rows (now addresses) (now tags)) ⌝ }
-    ensures { λ r. ⌜ IsFill (fillBy fine (part (now (bytes .entry)) (length (now (out .entry))) stage (rows (now (addresses .entry)) (now (tags .entry)))) (rows (now (addresses .entry)) (now (tags .entry))) (now (out .entry))) (fillAnswer r) (rows (now (addresses .exit)) (now (tags .exit))) (now (out .exit)) ⌝ }
+    ensures { λ r. ⌜
+        IsFill
+        (fillWith fine (now (bytes .entry)) stage (rows (now (addresses .entry)) (now (tags .entry))) (now (out .entry)))
+        (fillAnswer r) (rows (now (addresses .exit)) (now (tags .exit))) (now (out .exit)) ⌝ }
 {
     let mut at = 0;
     let mut s = stage;
@@ -62,7 +64,10 @@ pub fn fill(
     tags: &mut [u32],
     out: &mut [u8],
 ) -> Filled
-    ensures { λ r. ⌜ IsFill (fillOf (now (bytes .entry)) stage (rows (now (addresses .entry)) (now (tags .entry))) (now (out .entry))) (fillAnswer r) (rows (now (addresses .exit)) (now (tags .exit))) (now (out .exit)) ⌝ }
+    ensures { λ r. ⌜
+        IsFill
+        (fillOf (now (bytes .entry)) stage (rows (now (addresses .entry)) (now (tags .entry))) (now (out .entry)))
+        (fillAnswer r) (rows (now (addresses .exit)) (now (tags .exit))) (now (out .exit)) ⌝ }
 {
     let size = size_check(addresses.len(), tags.len());
     if let Check::Fault(f) = size {

@@ -2,13 +2,14 @@
 //
 // A report is printed in parts, into a buffer that the caller lends again and again: `fill` gathers as
 // many lines as fit and answers how far it came, a `Stage`, from which the next call goes on. All parts
-// one after another are the report of specs/Reports (proofs/Parts), whatever the buffer's length.
+// one after another are the report of specs/Reports, whatever the buffer's length (specs/Whole).
 pub mod fill;
 pub mod step;
 pub mod update;
 
 ghost use mathlib.Core.Path.{_≡_};
 ghost use Rattle.history.specs.Stages.{startOf, isDone};
+use route::Slot;
 
 // The most bytes of an input.
 pub const MAX_INPUT: usize = 65536;
@@ -22,7 +23,7 @@ pub enum Stage {
     // The record at a place of the input, behind so many records.
     Reading(usize, usize),
     // A slot of the table, or the end behind the last one.
-    Listing(usize),
+    Listing(Slot),
     // Nothing.
     Done,
 }

@@ -33,17 +33,19 @@ fn record_step(
     out: &mut [u8],
 ) -> Stepped
     requires { ⌜ (n ≤ at) × (at ≤ length (now bytes)) × (maxLine ≤ length (now out)) ⌝ }
-    ensures { λ r. ⌜ IsStep (now (bytes .entry)) (Stage.Reading n at) (rows (now (addresses .entry)) (now (tags .entry))) (now (out .entry)) r (rows (now (addresses .exit)) (now (tags .exit))) (now (out .exit)) ⌝ }
+    ensures { λ r. ⌜
+        IsStep (now (bytes .entry)) (Stage.Reading n at) (rows (now (addresses .entry)) (now (tags .entry))) (now (out .entry))
+        r (rows (now (addresses .exit)) (now (tags .exit))) (now (out .exit)) ⌝ }
 {
     let nth = n + 1;
     match read(bytes, at) {
         Reply::End => Stepped {
             size: 0,
-            stage: Stage::Listing(0),
+            stage: Stage::Listing(Slot(0)),
         },
         Reply::Refused(f) => Stepped {
             size: size_of(line::refused(nth, f, out)),
-            stage: Stage::Listing(0),
+            stage: Stage::Listing(Slot(0)),
         },
         Reply::Next(asked, next) => Stepped {
             size: tell(nth, asked, addresses, tags, out),
@@ -69,23 +71,26 @@ fn slot_line(slot: Slot, c: Cell, out: &mut [u8]) -> usize
 }
 
 // A slot of the table, or the end behind the last.
-fn slot_step(slot: usize, addresses: &[u32], tags: &[u32], out: &mut [u8]) -> Stepped
+fn slot_step(slot: Slot, addresses: &[u32], tags: &[u32], out: &mut [u8]) -> Stepped
     requires { ⌜ (length (now addresses) ≡ length (now tags)) × (maxLine ≤ length (now out)) ⌝ }
-    ensures { λ r. ⌜ IsStep [] (Stage.Listing slot) (rows (now (addresses .entry)) (now (tags .entry))) (now (out .entry)) r (rows (now (addresses .entry)) (now (tags .entry))) (now (out .exit)) ⌝ }
+    ensures { λ r. ⌜
+        IsStep [] (Stage.Listing slot) (rows (now (addresses .entry)) (now (tags .entry))) (now (out .entry))
+        r (rows (now (addresses .entry)) (now (tags .entry))) (now (out .exit)) ⌝ }
 {
-    if addresses.len() <= slot {
+    let i = slot.0;
+    if addresses.len() <= i {
         return Stepped {
             size: size_of(line::end(out)),
             stage: Stage::Done,
         };
     }
     let c = Cell {
-        address: addresses[slot],
-        tag: tags[slot],
+        address: addresses[i],
+        tag: tags[i],
     };
     Stepped {
-        size: slot_line(Slot(slot), c, out),
-        stage: Stage::Listing(slot + 1),
+        size: slot_line(slot, c, out),
+        stage: Stage::Listing(Slot(i + 1)),
     }
 }
 
@@ -98,7 +103,9 @@ pub(crate) fn step(
     out: &mut [u8],
 ) -> Stepped
     requires { ⌜ Ready (now bytes) stage (rows (now addresses) (now tags)) × (maxLine ≤ length (now out)) ⌝ }
-    ensures { λ r. ⌜ IsStep (now (bytes .entry)) stage (rows (now (addresses .entry)) (now (tags .entry))) (now (out .entry)) r (rows (now (addresses .exit)) (now (tags .exit))) (now (out .exit)) ⌝ }
+    ensures { λ r. ⌜
+        IsStep (now (bytes .entry)) stage (rows (now (addresses .entry)) (now (tags .entry))) (now (out .entry))
+        r (rows (now (addresses .exit)) (now (tags .exit))) (now (out .exit)) ⌝ }
 {
     match stage {
         Stage::TooLong => Stepped {

@@ -16,9 +16,14 @@ use tcam::image::used_slots;
 use tcam::plan::plan_remove;
 use tcam::plan::plan_set;
 
+// The cells of a plan's row: room for 18 writes, the most that a plan has.
+const PLAN_CELLS: usize = 54;
+
 // Plans what a record asks for.
 fn plan_of(asked: Record, addresses: &[u32], tags: &[u32], plan: &mut [u32]) -> Counted
-    ensures { λ r. ⌜ IsPlanned (planOf (rows (now (addresses .entry)) (now (tags .entry))) (updateOf asked) (length (now (plan .entry)))) (now (plan .entry)) (counted r) (now (plan .exit)) ⌝ }
+    ensures { λ r. ⌜
+        IsPlanned (planOf (rows (now (addresses .entry)) (now (tags .entry))) (updateOf asked) (length (now (plan .entry))))
+        (now (plan .entry)) (counted r) (now (plan .exit)) ⌝ }
 {
     match asked {
         Record::Set(p) => plan_set(addresses, tags, p.address, p.length, p.hop, plan),
@@ -28,9 +33,11 @@ fn plan_of(asked: Record, addresses: &[u32], tags: &[u32], plan: &mut [u32]) -> 
 
 // Makes what a record asks for: the number of writes, or the plan's refusal with the table as it was.
 fn make(asked: Record, addresses: &mut [u32], tags: &mut [u32]) -> Counted
-    ensures { λ r. ⌜ IsMade (updateOf asked) (rows (now (addresses .entry)) (now (tags .entry))) (counted r) (rows (now (addresses .exit)) (now (tags .exit))) ⌝ }
+    ensures { λ r. ⌜
+        IsMade (updateOf asked) (rows (now (addresses .entry)) (now (tags .entry)))
+        (counted r) (rows (now (addresses .exit)) (now (tags .exit))) ⌝ }
 {
-    let mut plan = [0u32; 54];
+    let mut plan = [0u32; PLAN_CELLS];
     match plan_of(asked, addresses, tags, &mut plan) {
         Counted::Refused(f) => Counted::Refused(f),
         Counted::Count(writes) => apply(addresses, tags, &plan, writes),
@@ -66,7 +73,9 @@ pub(crate) fn tell(
     out: &mut [u8],
 ) -> usize
     requires { ⌜ maxLine ≤ length (now out) ⌝ }
-    ensures { λ r. ⌜ IsTold nth (updateOf asked) (rows (now (addresses .entry)) (now (tags .entry))) (now (out .entry)) r (rows (now (addresses .exit)) (now (tags .exit))) (now (out .exit)) ⌝ }
+    ensures { λ r. ⌜
+        IsTold nth (updateOf asked) (rows (now (addresses .entry)) (now (tags .entry))) (now (out .entry))
+        r (rows (now (addresses .exit)) (now (tags .exit))) (now (out .exit)) ⌝ }
 {
     match make(asked, addresses, tags) {
         Counted::Refused(f) => size_of(line::refused(nth, f, out)),
