@@ -21,7 +21,7 @@ records: lib
 
 bench: lib
 	rt check report
-	cd rust && cargo run --offline --release --quiet -p bench --bin bench
+	cd rust && cargo build --offline --release --quiet -p bench && target/release/bench
 
 fmt:
 	rt fmt

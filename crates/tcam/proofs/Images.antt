@@ -1,7 +1,7 @@
 -- The image test: what is kept of the slots before slot i tells which rules it breaks, and the slots before it break none.
 use Prim.Native.Nat.{ℕ, _+_, _-_, _≤_, _<_, min}
 use mathlib.Core.Path.{_≡_, refl, sym, ap, _∙_}
-use mathlib.Core.Bool.{Bool, true, false, cond, not, _&&_, _||_}
+use mathlib.Core.Bool.{Bool, true, false, cond, not, _&&_, _||_, or-false}
 use mathlib.Core.List.{List, [], _∷_}
 use native.Mathlib.Omega.{arith}
 use native.Mathlib.Numerals.{add-one}
@@ -16,6 +16,15 @@ use Rattle.tcam.specs.Loops.{cellAt, SeenBefore, SeenWith, misplacedBy}
 use Rattle.tcam.specs.declared.image.Seen.{Seen}
 use Rattle.tcam.proofs.Rows.{cells-at, cells-in-both, cells-past}
 use Rattle.tcam.proofs.Cells.{used-short}
+
+-- a free slot breaks a rule where an entry below the pool stands before it; a used one by S1, S2 or S3
+module _ (W : ℕ) (c : Cell) (seen : Seen) where
+  pub misplaced-free : isFree c ≡ true → seen .lower ≡ misplacedBy W c seen
+  misplaced-free e = rw e
+
+  pub misplaced-used : isFree c ≡ false →
+      (not (keepsS1 W c) || ltb (seen .nearest .0) (lengthIn c) || (isUpper W c && seen .free)) ≡ misplacedBy W c seen
+  misplaced-used e = rw e (sym (or-false _))
 
 -- nothing stands before slot 0: no length is over W
 pub seen-start : {W : ℕ} {s : Seen} → s .nearest .0 ≡ W → s .free ≡ false → s .lower ≡ false → SeenBefore W [] s

@@ -53,12 +53,12 @@ impl Seen {
     fn refuses(self, c: Cell) -> bool
         ensures { λ r. ⌜ r ≡ misplacedBy 32 (cellOf c) self ⌝ }
     {
+        if c.is_free() {
+            return self.lower;
+        }
         let n = c.length();
         let nearest = self.nearest;
-        !c.is_valid()
-            | (!c.is_free() & (nearest.0 < n.0))
-            | (c.is_upper() & self.free)
-            | (c.is_free() & self.lower)
+        !c.is_valid() | (nearest.0 < n.0) | (c.is_upper() & self.free)
     }
 }
 

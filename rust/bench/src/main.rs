@@ -1,21 +1,30 @@
 //! The proved code beside plain Rust that does the same checked work in the same shape, in one run.
 //!
 //! Rounds of both are taken in turn, and the least time of each counts: what is above it is the machine's doing. The rows are in
-//! the cache, and nothing is cleared between rounds.
+//! the cache, and nothing is cleared between rounds. The report programs are run as processes.
 
-mod plain;
-
+use bench::plain;
 use hawkmortar::{NextHop, Prefix, Record};
+use second::program;
 use second::random::{Random, Rows};
+use second::report::{MOST, SLOTS};
+use std::env;
+use std::fs::{self, File};
 use std::hint::black_box;
+use std::path::Path;
+use std::process::{Command, Stdio};
 use std::time::{Duration, Instant};
 
 const ROUNDS: usize = 41;
 
 /// The nanoseconds of a call, by the least time that `calls` calls took in any round, of each of two.
-fn least(calls: u32, mut one: impl FnMut(), mut other: impl FnMut()) -> [f64; 2] {
+fn least(calls: u32, one: impl FnMut(), other: impl FnMut()) -> [f64; 2] {
+    least_of(ROUNDS, calls, one, other)
+}
+
+fn least_of(rounds: usize, calls: u32, mut one: impl FnMut(), mut other: impl FnMut()) -> [f64; 2] {
     let mut least = [Duration::MAX; 2];
-    for _ in 0..ROUNDS {
+    for _ in 0..rounds {
         for (least, run) in least.iter_mut().zip([&mut one as &mut dyn FnMut(), &mut other]) {
             let start = Instant::now();
             for _ in 0..calls {
@@ -67,6 +76,7 @@ fn main() {
     }
     dxr_lookups();
     records();
+    reports();
 }
 
 fn list(entries: u32, calls: u32) {
@@ -424,7 +434,7 @@ fn records() {
     read_stream("ten bytes each", &stream(longest), 10);
 }
 
-/// Half have length 24, most others 16 to 23. There are three sets for each removal. One hop in eight is of any size, others small.
+/// Half have length 24, most others 16 to 23.
 fn update(random: &mut Random) -> Record {
     let length = match random.below(16) {
         0..=7 => 24,
@@ -433,8 +443,13 @@ fn update(random: &mut Random) -> Record {
         _ => 25 + random.below(8),
     };
     let address = random.number() << (32 - length);
+    update_of(address as u32, length as u32, random)
+}
+
+/// There are three sets for each removal. One hop in eight is of any size, others are small.
+fn update_of(address: u32, length: u32, random: &mut Random) -> Record {
     let hops = if random.one_in(8) { 65_535 } else { 64 };
-    let set = set(address as u32, length as u32, 1 + random.below(hops));
+    let set = set(address, length, 1 + random.below(hops));
     if random.one_in(4) {
         return Record::Remove(set.prefix());
     }
@@ -489,4 +504,51 @@ fn sum(bytes: &[u8], numbers_at: impl Fn(&[u8], usize, &mut [u32; 4]) -> usize) 
         sum = record.iter().fold(sum, |sum, &number| sum.wrapping_add(number));
     });
     black_box(sum);
+}
+
+/// Whole runs of the report program and of the plain one: with a table that is full most of the time, so that the image test takes
+/// nearly all of it, and with one of few routes, where that test is little more than one pass over the slots.
+fn reports() {
+    report(&format!("{SLOTS} routes"), &routes(SLOTS + SLOTS / 2), 5);
+    let of_length_24 = |random: &mut Random| (24, random.number() as u32);
+    report(
+        "32 routes",
+        &Rows::distinct(&mut Random::new(5), 32, of_length_24, |_| 1),
+        ROUNDS,
+    );
+}
+
+/// A line of both programs, each from its start to its end, on a file of updates of a list.
+fn report(name: &str, list: &Rows, rounds: usize) {
+    let here = env::current_exe().expect("this program is a file");
+    let (proved, plain) = (program::report(), here.with_file_name("plain_report"));
+    assert!(plain.is_file(), "{} is missing: run `make bench`", plain.display());
+    let input = here.with_file_name("report_input");
+    fs::write(&input, report_input(list)).expect("a file beside this program");
+    let [printed, expected] = [&proved, &plain].map(|program| on_file(program, &input).output().expect("a program"));
+    assert!(printed == expected && printed.status.success(), "the reports differ");
+    let run = |program: &Path| {
+        let ended = on_file(program, &input).stdout(Stdio::null()).status();
+        assert!(ended.expect("a program").success());
+    };
+    let times = least_of(rounds, 1, || run(&proved), || run(&plain));
+    line(&format!("report, {MOST} bytes, {name}"), times);
+}
+
+/// Updates of the routes of a list, as many bytes as a report reads; the last record may be cut.
+fn report_input(list: &Rows) -> Vec<u8> {
+    let (mut random, mut bytes) = (Random::new(4), Vec::new());
+    while bytes.len() < MOST {
+        let i = random.below(list.addresses.len() as u64) as usize;
+        update_of(list.addresses[i], list.lengths[i], &mut random).append_to(&mut bytes);
+    }
+    bytes.truncate(MOST);
+    bytes
+}
+
+/// A run of a program with a file as its input.
+fn on_file(program: &Path, input: &Path) -> Command {
+    let mut command = Command::new(program);
+    command.stdin(File::open(input).expect("the input is there"));
+    command
 }

@@ -5,9 +5,11 @@
 pub mod book;
 pub mod dxr;
 pub mod list;
+pub mod program;
 pub mod random;
 pub mod ranges;
 pub mod records;
+pub mod report;
 pub mod slots;
 
 /// A refusal's number and place.

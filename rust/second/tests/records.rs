@@ -6,16 +6,13 @@ mod both;
 use both::fault;
 use both::records::{
     bytes_of, follow, groups, in_groups, library_bytes, numbers, random_record, random_records, record_at, record_of,
-    shortest, Answer,
+    shortest, Answer, REPORT,
 };
 use hawkmortar::Records;
 use second::ip;
 use second::random::Random;
 use second::records::Record;
 use second::Fault;
-
-/// The report's input: set 10.0.0.0/8 hop 1, set 10.20.0.0/16 hop 2, remove 10.0.0.0/8.
-const REPORT: [u8; 12] = [0x01, 0x08, 0x0a, 0x01, 0x01, 0x10, 0x94, 0x14, 0x02, 0x00, 0x08, 0x0a];
 
 /// The address 10.0.0.0.
 const TEN: u32 = 10 << 24;
@@ -236,6 +233,22 @@ fn streams_are_read_back() {
         let bytes = bytes_of(&records);
         assert!(library_bytes(&records) == bytes, "{records:?}");
         assert!(follow(&bytes) == (ends(&records), None), "{records:?}");
+    }
+}
+
+/// The words of each record, written without the library, are those that it shows, and are parsed back.
+#[test]
+fn records_in_words_are_parsed_back() {
+    let mut random = Random::new(46);
+    for record in random_records(&mut random, 100_000) {
+        let [kind, length, address, hop] = record;
+        let [a, b, c, d] = address.to_be_bytes();
+        let words = match kind {
+            1 => format!("set {a}.{b}.{c}.{d}/{length} {hop}"),
+            _ => format!("remove {a}.{b}.{c}.{d}/{length}"),
+        };
+        let parsed: hawkmortar::Record = words.parse().unwrap();
+        assert_eq!((numbers(parsed), parsed.to_string()), (record, words));
     }
 }
 

@@ -6,6 +6,9 @@ use second::random::Random;
 use second::records::{self as plain, Record};
 use second::Fault;
 
+/// The input of the report's example: set 10.0.0.0/8 hop 1, set 10.20.0.0/16 hop 2, remove 10.0.0.0/8.
+pub const REPORT: [u8; 12] = [0x01, 0x08, 0x0a, 0x01, 0x01, 0x10, 0x94, 0x14, 0x02, 0x00, 0x08, 0x0a];
+
 /// A record and the place behind it, or none at the end, or the refusal.
 pub type Answer = Result<Option<(Record, usize)>, Fault>;
 
