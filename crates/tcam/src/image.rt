@@ -4,6 +4,7 @@
 // length, whether one is free, whether one is below the pool. S5 compares a used slot with those
 // before it, and only where it breaks none of the other rules.
 ghost use mathlib.Core.Path.{_≡_};
+ghost use mathlib.Core.Bool.{false};
 ghost use Prim.Native.Nat.{_≤_, _<_, min};
 ghost use mathlib.Core.List.{[]};
 ghost use lib.ListN.{length};
@@ -21,6 +22,9 @@ use route::Counted;
 use route::Length;
 use route::Refusal;
 use route::Slot;
+
+// How many slots S5 compares before it looks whether one was found.
+const BLOCK: usize = 64;
 
 // What stands before a slot, as far as S2 to S4 ask.
 pub struct Seen {
@@ -62,6 +66,23 @@ impl Seen {
     }
 }
 
+// Whether a slot before slot `to` holds the prefix of c, where none before slot `from` does. The loop
+// has no exit, so that several slots are compared at once.
+fn stands_among(addresses: &[u32], tags: &[u32], from: Slot, to: Slot, c: Cell) -> bool
+    requires { ⌜ (length (now addresses) ≡ length (now tags)) × (from .0 ≤ to .0) × (to .0 ≤ length (now addresses)) ⌝ }
+    requires { ⌜ any (samePrefixIn (cellOf c)) (before (cellAt (now addresses) (now tags)) (from .0)) ≡ false ⌝ }
+    ensures { λ r. ⌜ r ≡ any (samePrefixIn (cellOf c)) (before (cellAt (now (addresses .entry)) (now (tags .entry))) (to .0)) ⌝ }
+{
+    let end = to.0;
+    let mut found = false;
+    let mut j = from.0;
+    while j < end {
+        found = c.stands_in(cell_at(addresses, tags, Slot(j))) | found;
+        j += 1;
+    }
+    found
+}
+
 // S5: whether a slot before slot i holds the prefix of c.
 fn stands_before(addresses: &[u32], tags: &[u32], i: Slot, c: Cell) -> bool
     requires { ⌜ (length (now addresses) ≡ length (now tags)) × (i .0 ≤ length (now addresses)) ⌝ }
@@ -70,10 +91,11 @@ fn stands_before(addresses: &[u32], tags: &[u32], i: Slot, c: Cell) -> bool
     let end = i.0;
     let mut j = 0;
     while j < end {
-        if c.stands_in(cell_at(addresses, tags, Slot(j))) {
+        let to = lesser(j + BLOCK, end);
+        if stands_among(addresses, tags, Slot(j), Slot(to), c) {
             return true;
         }
-        j += 1;
+        j = to;
     }
     false
 }

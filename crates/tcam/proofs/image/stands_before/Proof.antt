@@ -1,11 +1,11 @@
--- No slot before slot j holds the prefix. The measure is what is left up to slot i.
+-- Block by block: no slot before slot j holds the prefix. The measure is what is left up to slot i.
 use borrow.Author.Needs.{needs}
-use Prim.Native.Nat.{_-_}
-use mathlib.Core.Path.{refl, sym, _∙_, ap}
+use Prim.Native.Nat.{_-_, _≤_, min}
+use mathlib.Core.Path.{refl, sym}
 use Rattle.tcam.specs.Slots.{samePrefixIn}
 use Rattle.tcam.specs.Shown.{cellOf}
 use Rattle.tcam.specs.Loops.{cellAt}
-use Rattle.route.proofs.Searches.{NoneBefore, none-turn, none-end, none-hit}
+use Rattle.route.proofs.Searches.{NoneBefore, none-end, block-hit, block-turn}
 use Rattle.tcam.proofs.image.stands_before.Statement.{statement}
 use Rattle.tcam.proofs.image.stands_before.Tie as tie
 
@@ -18,15 +18,18 @@ abbrev μ-loop : tie.MeasureT-loop
 loop-holds : tie.Need-loop-holds Inv-loop μ-loop
 loop-holds c = record { within = search needs; none = refl }
 
+stands-among-requires : tie.Need-stands-among-requires Inv-loop μ-loop
+stands-among-requires c κs = ((search needs, search needs, search needs), c .before .before .loop .inv .none)
+
 returns : tie.Need-returns Inv-loop μ-loop
 returns c =
-    sym (none-hit (c .before .before .before .before .loop .inv) (search needs)
-    (ap (samePrefixIn _) (sym (c .before .before .cell-at .ensures)) ∙ sym (c .before .stands-in .ensures) ∙ c .if1 .taken))
+    let b = c .before in
+    sym (block-hit (b .before .before .before .loop .inv) (b .before .lesser .result) (search needs) (b .stands-among .ensures) (c .if1 .taken))
 
 loop-again : tie.Need-loop-again Inv-loop μ-loop
 loop-again c =
-    none-turn (c .before .before .before .before .loop .inv) (search needs)
-    (ap (samePrefixIn _) (sym (c .before .before .cell-at .ensures)) ∙ sym (c .before .stands-in .ensures) ∙ c .if1 .left)
+    let b = c .before in
+    block-turn (b .before .before .before .loop .inv) (b .before .lesser .result) (search needs) (b .stands-among .ensures) (c .if1 .left)
 
 returns-2 : tie.Need-returns-2 Inv-loop μ-loop
 returns-2 c = sym (none-end (c .before .loop .inv) (search needs))
@@ -35,5 +38,5 @@ pub stands-before-spec : {M : Type 1} → statement M
 stands-before-spec =
     tie.close
     (tie.spec
-    Inv-loop μ-loop loop-holds (λ c κs. search needs) (λ c κs. search needs) returns (λ c. search needs)
+    Inv-loop μ-loop loop-holds (λ c. search needs) (λ c κs. search needs) stands-among-requires returns
     (λ c. search needs) loop-again returns-2)
