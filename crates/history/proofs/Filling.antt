@@ -1,12 +1,12 @@
 -- The loop that fills a buffer: what the definition says of the steps that are left is what it says of the whole part.
-use Prim.Native.Nat.{ℕ, zero, suc, _+_, _-_, _≤_, _<_}
+use Prim.Native.Nat.{ℕ, zero, suc, _+_, _-_, _≤_}
 use mathlib.Core.Path.{_≡_, refl, sym, ap, _∙_}
 use mathlib.Core.Bool.{Bool, true, false, not, _&&_, _||_}
-use mathlib.Core.List.{List, [], _∷_, _++_, append-assoc, append-nil}
+use mathlib.Core.List.{List, [], _++_, append-assoc, append-nil}
 use native.Mathlib.Nat.{le-refl, sub-zero}
 use native.Mathlib.Omega.{arith}
 use lib.Dec.{leb, ltb}
-use lib.ListN.{length, length-append, length-take, length-drop, take, drop, take-append-drop}
+use lib.ListN.{length, length-append, length-drop, take, drop, take-append-drop}
 use lib.Seq.{drop-drop, take-at, drop-at, length-take-le}
 use borrow.Author.Tests.{lt-ltb, le-ltb, leb-true, leb-false, not-true}
 use borrow.Rule.Slice.PartMut.{midOf, putMid}
@@ -17,7 +17,7 @@ use Rattle.lines.specs.Lines.{maxLine}
 use Rattle.history.specs.Reports.{Rows}
 use Rattle.history.specs.Stages.{isDone, run, stepText, stepTo, stepsLeft}
 use Rattle.history.specs.Fills.{printed, part, printedTo, fillBy, IsFill}
-use Rattle.history.specs.Steps.{IsPrinted, Ready, IsStep}
+use Rattle.history.specs.Steps.{Ready, IsStep}
 use Rattle.history.specs.declared.Stage.{Stage}
 use Rattle.history.specs.declared.step.Stepped.{Stepped}
 use Rattle.history.proofs.Stages.{step-size, step-ready, step-falls, step-fits}

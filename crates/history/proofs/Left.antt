@@ -1,22 +1,22 @@
 -- What is left to print at a stage is what a step prints and what is left behind it; at the start it is the whole report.
 use Prim.Native.Nat.{ℕ, zero, suc, _+_, _-_, _≤_, _<_}
-use mathlib.Core.Path.{_≡_, refl, sym, ap, _∙_}
+use mathlib.Core.Path.{_≡_, refl, sym, ap}
 use mathlib.Core.Bool.{Bool, true, false, cond}
 use mathlib.Core.List.{List, [], _∷_, _++_, append-assoc, append-nil}
 use native.Mathlib.Nat.{sub-zero}
 use native.Mathlib.Numerals.{add-one}
 use native.Mathlib.Omega.{arith}
-use lib.Dec.{ltb, eqb}
-use lib.ListN.{length, drop, drop-of-length-le, getD, replicate, length-replicate}
+use lib.Dec.{ltb}
+use lib.ListN.{length, drop, drop-of-length-le, getD, length-replicate}
 use lib.Seq.{drop-cons}
-use borrow.Author.Tests.{lt-ltb, le-ltb, ltb-true, ltb-false, eq-eqb}
+use borrow.Author.Tests.{le-ltb, ltb-true, ltb-false, eq-eqb}
 use Rattle.route.proofs.Tests.{byTest}
-use Rattle.tcam.specs.Slots.{Cell, free}
+use Rattle.tcam.specs.Slots.{free}
 use Rattle.tcam.proofs.Rows.{length-cells}
-use Rattle.records.specs.Records.{Update, Reply, update, ended, refusedAt, recordAt}
+use Rattle.records.specs.Records.{Reply, update, ended, refusedAt, recordAt}
 use Rattle.records.proofs.Places.{ahead}
 use Rattle.lines.specs.Lines.{headerLine, endLine, tooLongLine}
-use Rattle.history.specs.Reports.{Rows, slots, maxInput, reportSlots, emptyRows, toldText, slotText, slotTexts, Item, asks, itemsBy, items, history, report}
+use Rattle.history.specs.Reports.{Rows, slots, maxInput, reportSlots, emptyRows, slotText, asks, itemsBy, items, history, report}
 use Rattle.history.specs.Stages.{slotAt, startOf, stepText, stepTo, left, recordText, behindRecord}
 use Rattle.history.specs.Steps.{Ready}
 use Rattle.history.specs.declared.Stage.{Stage}

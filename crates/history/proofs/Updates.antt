@@ -1,7 +1,7 @@
 -- One update: its plan is refused and the table stays, or it is applied whole, which an accepted plan always can be; and its line is
 -- printed, for which there is room.
 use Prim.Native.Nat.{ℕ, _≤_}
-use mathlib.Core.Path.{_≡_, refl, sym, ap, _∙_}
+use mathlib.Core.Path.{_≡_, refl, ap, _∙_}
 use mathlib.Core.List.{List}
 use native.Mathlib.Omega.{arith}
 use borrow.Author.Tests.{le-ltb}

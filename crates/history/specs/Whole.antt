@@ -7,10 +7,9 @@ use lib.ListN.{length}
 use Rattle.route.specs.Refusals.{fine}
 use Rattle.route.specs.RightHop.{_∈_}
 use Rattle.lines.specs.Lines.{maxLine}
-use Rattle.history.specs.Reports.{Rows, reportSlots, emptyRows, report}
+use Rattle.history.specs.Reports.{reportSlots, emptyRows, report}
 use Rattle.history.specs.Stages.{startOf, isDone, Run, run, stepsLeft}
 use Rattle.history.specs.Fills.{Printed, behindText, part, stageFault}
-use Rattle.history.specs.declared.Stage.{Stage}
 
 -- the parts for buffers of these lengths, one after another
 abbrev pub parts : List ℕ → List ℕ → Run → Printed

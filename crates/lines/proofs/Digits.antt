@@ -2,7 +2,7 @@
 -- one digit off at each turn counts them, or puts them, right.
 use Prim.Native.Nat.{ℕ, suc, zero, _+_, _-_, _/_, _%_, _^_, _≤_, _<_}
 use mathlib.Core.Path.{_≡_, refl, sym, ap, _∙_}
-use mathlib.Core.List.{List, [], _∷_, _++_}
+use mathlib.Core.List.{List, _++_}
 use mathlib.Core.Bool.{Bool, true, false, cond}
 use native.Mathlib.Nat.{div-lt-iff-lt-mul, pow-suc}
 use native.Mathlib.Omega.{arith}
@@ -11,7 +11,6 @@ use borrow.Author.Tests.{lt-ltb, le-ltb}
 use lib.ListN.{length, length-append, length-set, set}
 use lib.Seq.{sets}
 use Rattle.lines.specs.Texts.{digit, digits, decimal}
-use Rattle.lines.specs.Lines.{IsPut}
 use Rattle.lines.proofs.Puts.{sets-last}
 
 tenth : {n : ℕ} (k : ℕ) → n < 10 ^ suc k → n / 10 < 10 ^ k

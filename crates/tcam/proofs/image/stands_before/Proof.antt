@@ -1,6 +1,6 @@
 -- Block by block: no slot before slot j holds the prefix. The measure is what is left up to slot i.
 use borrow.Author.Needs.{needs}
-use Prim.Native.Nat.{_-_, _≤_, min}
+use Prim.Native.Nat.{_-_}
 use mathlib.Core.Path.{refl, sym}
 use Rattle.tcam.specs.Slots.{samePrefixIn}
 use Rattle.tcam.specs.Shown.{cellOf}
