@@ -1,5 +1,4 @@
 // The lines, each with its line end.
-ghost use mathlib.Core.Path.{_≡_};
 ghost use Prim.Native.Nat.{_≤_};
 ghost use lib.ListN.{length};
 ghost use Rattle.route.specs.Shown.{counted, number, routeOf};
