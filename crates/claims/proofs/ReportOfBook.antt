@@ -115,9 +115,9 @@ line-is : (nth : ℕ) (u : Update) (p : Planned) (t : Rows) → updateText nth u
 line-is nth u (refuses n q) t = refl
 line-is nth u (writes ws) t = refl
 
-told : {W M : ℕ} {b : Book} {p : Planned} {e : BookAnswer} → Agrees W M b p e → (nth : ℕ) (u : Update)
+line-agrees : {W M : ℕ} {b : Book} {p : Planned} {e : BookAnswer} → Agrees W M b p e → (nth : ℕ) (u : Update)
     → updateText nth u p (after (rowsOf (bookImage W M b)) p) ≡ bookText nth u (e .answer) (length (entries W (e .book)))
-told {W} {M} {b} {p} {e} a nth u = line-is nth u p _ ∙ ap₂ (bookText nth u) (a .answers)
+line-agrees {W} {M} {b} {p} {e} a nth u = line-is nth u p _ ∙ ap₂ (bookText nth u) (a .answers)
     (ap (λ t. usedIn (slots t)) (a .table) ∙ ap usedIn (cells-back (bookImage W M (e .book))) ∙ used-slots W M (e .book) (a .next .ok))
 
 module _ (M : ℕ) (i : 1 ≤ M) (j : M ≤ maxSlots) where
@@ -129,7 +129,7 @@ module _ (M : ℕ) (i : 1 ≤ M) (j : M ≤ maxSlots) where
   history-is nth b k [] = rw cells-back
   history-is nth b k (asks u ∷ is) =
       let a = update-agrees b k u in
-      ap₂ (λ x y. x ++ y) (told a nth u) (ap (λ t. history (nth + 1) t is) (a .table) ∙ history-is (nth + 1) (booked M b u .book) (a .next) is)
+      ap₂ (λ x y. x ++ y) (line-agrees a nth u) (ap (λ t. history (nth + 1) t is) (a .table) ∙ history-is (nth + 1) (booked M b u .book) (a .next) is)
   history-is nth b k (unreadable n ∷ is) = ap (λ x. refusedLine nth n ++ x) (history-is (nth + 1) b k is)
 
   -- from the empty table, whose rows are zeros

@@ -11,7 +11,7 @@ use Rattle.route.specs.Refusals.{Answer, value, refused}
 use Rattle.tcam.specs.Book.{Book, BookAnswer, emptyBook, entries, bookImage, bookSet, bookRemove}
 use Rattle.records.specs.Records.{Update, removal, setting}
 use Rattle.lines.specs.Lines.{headerLine, refusedLine, endLine, tooLongLine}
-use Rattle.history.specs.Reports.{maxInput, reportSlots, planRoom, madeText, slotTexts, Item, asks, unreadable, items, report}
+use Rattle.history.specs.Reports.{maxInput, reportSlots, planRoom, acceptedText, slotTexts, Item, asks, unreadable, items, report}
 
 -- what the book of M slots answers to a record, and the book afterwards
 abbrev pub booked : ℕ → Book → Update → BookAnswer
@@ -20,7 +20,7 @@ booked M b (removal a n) = bookRemove 32 M b a n planRoom
 
 -- an update's line, by the book's answer and its entries afterwards
 abbrev pub bookText : ℕ → Update → Answer → ℕ → List ℕ
-bookText nth u (value w) used = madeText nth u w used
+bookText nth u (value w) used = acceptedText nth u w used
 bookText nth u (refused n p) used = refusedLine nth n
 
 -- the lines of the items, the first of them with this number, then the slots of the book's image and the end

@@ -1,4 +1,4 @@
--- What a step keeps and what it brings on: the stage stays one of the bytes, the table keeps its size, fewer steps are left, and it prints
+-- What a step keeps, and that it advances the report: the stage stays one of the bytes, the table keeps its size, fewer steps are left, and it prints
 -- one line at most.
 use Prim.Native.Nat.{ℕ, _+_, _-_, _≤_, _<_}
 use mathlib.Core.Path.{_≡_, refl, sym, _∙_}
@@ -22,7 +22,7 @@ use Rattle.history.specs.Stages.{slotAt, isDone, isStageOf, stepText, st
 use Rattle.history.specs.Steps.{Ready}
 use Rattle.history.specs.declared.Stage.{Stage}
 use Rattle.history.specs.declared.Stage.the-variants.{TooLong, Header, Reading, Listing, Done}
-use Rattle.history.proofs.Updates.{made-fits}
+use Rattle.history.proofs.Updates.{accepted-fits}
 use Rattle.history.proofs.Steps.{placed-parts}
 
 -- the table keeps its size
@@ -96,9 +96,9 @@ step-falls bs (Listing slot) t r d =
 step-falls bs Done t r d = let z : _≡_ {A = ℕ} 0 1 = cc in absurd (omega arith)
 
 -- a step prints one line at most
-told-fits : (nth : ℕ) (u : Update) (p : Planned) (t : Rows) → length (updateText nth u p t) ≤ maxLine
-told-fits nth u (refuses n q) t = refused-fits nth n
-told-fits nth u (writes ws) t = made-fits nth u _ _
+reported-fits : (nth : ℕ) (u : Update) (p : Planned) (t : Rows) → length (updateText nth u p t) ≤ maxLine
+reported-fits nth u (refuses n q) t = refused-fits nth n
+reported-fits nth u (writes ws) t = accepted-fits nth u _ _
 
 pub step-fits : (bs : List ℕ) (s : Stage) (t : Rows) → length (stepText bs s t) ≤ maxLine
 step-fits bs TooLong t = omega arith
@@ -106,7 +106,7 @@ step-fits bs Header t = header-fits (length (t .addresses))
 step-fits bs (Reading n at) t = go (recordAt 32 bs at)
   where
     go : (a : Reply) → length (recordText (n + 1) t a) ≤ maxLine
-    go (update u next) = told-fits (n + 1) u (planOf t u planRoom) _
+    go (update u next) = reported-fits (n + 1) u (planOf t u planRoom) _
     go ended = omega arith
     go (refusedAt m p) = refused-fits (n + 1) m
 step-fits bs (Listing slot) t = go (ltb (slot .0) (length (t .addresses))) (isFree (getD (slots t) (slot .0) free))

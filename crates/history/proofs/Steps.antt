@@ -15,7 +15,7 @@ use Rattle.records.specs.Records.{Update, update, ended, refusedAt, recordAt}
 use Rattle.lines.specs.Lines.{refusedLine, slotLine, endLine}
 use Rattle.history.specs.Reports.{Rows, slotText}
 use Rattle.history.specs.Stages.{slotAt}
-use Rattle.history.specs.Steps.{IsPrinted, IsTold, Ready, IsStep}
+use Rattle.history.specs.Steps.{IsPrinted, IsReported, Ready, IsStep}
 use Rattle.history.specs.declared.Stage.{Stage}
 use Rattle.history.specs.declared.Stage.the-variants.{Reading, Listing, Done}
 use Rattle.history.specs.declared.step.Stepped.{Stepped}
@@ -56,9 +56,9 @@ module _ {buffer : List ℕ} {size : ℕ} {buffer′ : List ℕ} where
 
   -- an update, and a record that cannot be read
   module _ (bs : List ℕ) (n at : ℕ) {t : Rows} where
-    pub step-update : {u : Update} {next : ℕ} {t′ : Rows} → update u next ≡ recordAt 32 bs at → IsTold (n + 1) u t buffer size t′ buffer′ →
+    pub step-update : {u : Update} {next : ℕ} {t′ : Rows} → update u next ≡ recordAt 32 bs at → IsReported (n + 1) u t buffer size t′ buffer′ →
         IsStep bs (Reading n at) t buffer (stepped size (Reading (n + 1) next)) t′ buffer′
-    step-update e told = record { stage = rw (← e); table = rw (← e) (told .table); line = rw (← e) (told .line) }
+    step-update e r = record { stage = rw (← e); table = rw (← e) (r .table); line = rw (← e) (r .line) }
 
     pub step-unreadable : {m q : ℕ} → refusedAt m q ≡ recordAt 32 bs at → IsPrinted (refusedLine (n + 1) m) buffer size buffer′ →
         IsStep bs (Reading n at) t buffer (stepped size (Listing (slotAt 0))) t buffer′

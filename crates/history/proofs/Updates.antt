@@ -14,8 +14,8 @@ use Rattle.tcam.proofs.Whole.{AppliesWhole, set-applies, remove-applies}
 use Rattle.records.specs.Records.{Update, removal, setting}
 use Rattle.lines.specs.Lines.{refusedLine, maxLine, IsWritten}
 use Rattle.lines.proofs.Sizes.{update-fits}
-use Rattle.history.specs.Reports.{Rows, rows, slots, planRoom, planOf, after, madeText, updateText}
-use Rattle.history.specs.Steps.{sizeOf, IsPrinted, IsMade, IsTold}
+use Rattle.history.specs.Reports.{Rows, rows, slots, planRoom, planOf, after, acceptedText, updateText}
+use Rattle.history.specs.Steps.{sizeOf, IsPrinted, IsUpdated, IsReported}
 
 -- an accepted plan can be applied whole
 plan-applies : (t : Rows) (u : Update) (room : ℕ) {ws : List Write} → planOf t u room ≡ writes ws → (row : List ℕ) →
@@ -25,16 +25,16 @@ plan-applies t (removal a n) room e row = remove-applies 32 (t .addresses) (t .t
 
 -- a plan that was refused, and one that was applied whole
 module _ (u : Update) (t : Rows) where
-  pub made-refused : {n q : ℕ} → refused n q ≡ planAnswer (planOf t u planRoom) → IsMade u t (refused n q) t
-  made-refused {n} {q} e = record { answers = e; table = stays (planOf t u planRoom) e }
+  pub updated-refused : {n q : ℕ} → refused n q ≡ planAnswer (planOf t u planRoom) → IsUpdated u t (refused n q) t
+  updated-refused {n} {q} e = record { answers = e; table = stays (planOf t u planRoom) e }
     where
       stays : (p : Planned) → refused n q ≡ planAnswer p → t ≡ after t p
       stays (refuses m r) e = refl
       stays (writes ws) e = absurd (let z : _≡_ {A = ℕ} 0 1 = cc in omega arith)
 
-  pub made-applied : (row : List ℕ) {k : ℕ} {answer : Answer} {ad ts : List ℕ} → value k ≡ planAnswer (planOf t u planRoom) →
-      IsApplied 32 (t .addresses) (t .tags) (rowAfter (planOf t u planRoom) row) k answer ad ts → IsMade u t answer (rows ad ts)
-  made-applied row {k} {answer} {ad} {ts} v a =
+  pub updated-applied : (row : List ℕ) {k : ℕ} {answer : Answer} {ad ts : List ℕ} → value k ≡ planAnswer (planOf t u planRoom) →
+      IsApplied 32 (t .addresses) (t .tags) (rowAfter (planOf t u planRoom) row) k answer ad ts → IsUpdated u t answer (rows ad ts)
+  updated-applied row {k} {answer} {ad} {ts} v a =
       let h = whole (planOf t u planRoom) refl v a in
       record { answers = h .0; table = h .1 }
     where
@@ -54,24 +54,24 @@ line-printed {text} {buffer} w s f l =
     let e = le-ltb (length buffer) (length text) (omega arith) in
     record { counts = s ∙ ap sizeOf (w .answers) ∙ rw e; prints = w .after ∙ rw e }
 
-pub made-fits : (nth : ℕ) (u : Update) (w used : ℕ) → length (madeText nth u w used) ≤ maxLine
-made-fits nth (setting r) w used = update-fits nth _ _ w used (omega arith)
-made-fits nth (removal a n) w used = update-fits nth _ _ w used (omega arith)
+pub accepted-fits : (nth : ℕ) (u : Update) (w used : ℕ) → length (acceptedText nth u w used) ≤ maxLine
+accepted-fits nth (setting r) w used = update-fits nth _ _ w used (omega arith)
+accepted-fits nth (removal a n) w used = update-fits nth _ _ w used (omega arith)
 
 -- the line of a refused update, and of one that was made
 module _ (nth : ℕ) {u : Update} {t t′ : Rows} {buffer : List ℕ} {size : ℕ} {buffer′ : List ℕ} where
-  pub told-refused : {n q : ℕ} → IsMade u t (refused n q) t′ → IsPrinted (refusedLine nth n) buffer size buffer′ → IsTold nth u t buffer size t′ buffer′
-  told-refused {n} {q} h l = record { table = h .table; line = rw (← (text (planOf t u planRoom) (h .answers))) l }
+  pub reported-refused : {n q : ℕ} → IsUpdated u t (refused n q) t′ → IsPrinted (refusedLine nth n) buffer size buffer′ → IsReported nth u t buffer size t′ buffer′
+  reported-refused {n} {q} h l = record { table = h .table; line = rw (← (text (planOf t u planRoom) (h .answers))) l }
     where
       text : (p : Planned) → refused n q ≡ planAnswer p → refusedLine nth n ≡ updateText nth u p (after t p)
       text (refuses m r) e = let same : n ≡ m = cc in rw same
       text (writes ws) e = absurd (let z : _≡_ {A = ℕ} 0 1 = cc in omega arith)
 
-  pub told-made : {w used : ℕ} → IsMade u t (value w) t′ → used ≡ usedIn (slots t′) → IsPrinted (madeText nth u w used) buffer size buffer′ →
-      IsTold nth u t buffer size t′ buffer′
-  told-made {w} {used} h e l =
+  pub reported-accepted : {w used : ℕ} → IsUpdated u t (value w) t′ → used ≡ usedIn (slots t′) → IsPrinted (acceptedText nth u w used) buffer size buffer′ →
+      IsReported nth u t buffer size t′ buffer′
+  reported-accepted {w} {used} h e l =
       record { table = h .table; line = rw (← (text (planOf t u planRoom) (h .answers) (e ∙ ap (λ t. usedIn (slots t)) (h .table)))) l }
     where
-      text : (p : Planned) → value w ≡ planAnswer p → used ≡ usedIn (slots (after t p)) → madeText nth u w used ≡ updateText nth u p (after t p)
+      text : (p : Planned) → value w ≡ planAnswer p → used ≡ usedIn (slots (after t p)) → acceptedText nth u w used ≡ updateText nth u p (after t p)
       text (refuses m r) v e = absurd (let z : _≡_ {A = ℕ} 0 1 = cc in omega arith)
       text (writes ws) v e = let same : w ≡ length ws = cc in rw (same, e)

@@ -1,14 +1,14 @@
 -- A part of a report: as many steps as fit a buffer.
 --
--- A step is made while there is room for the longest line. So a part ends where the report is done or where less room is left, and a
--- buffer of at least that length always brings the report on.
+-- A step is made while there is room for a line. So a part ends where the report is done or where less room is left. A buffer with no room
+-- for a line is refused, so that every part that is answered advances the report.
 use Prim.Native.Nat.{ℕ, zero, suc, _-_}
 use mathlib.Core.Path.{_≡_}
-use mathlib.Core.Bool.{cond, not, _||_}
+use mathlib.Core.Bool.{cond, not, _&&_, _||_}
 use mathlib.Core.List.{List, [], _++_}
 use lib.Dec.{ltb}
 use lib.ListN.{length, drop}
-use Rattle.route.specs.Refusals.{Verdict, fine, fault, faultIf, _then_, sizeRefusal}
+use Rattle.route.specs.Refusals.{Verdict, fine, fault, faultIf, _then_, sizeRefusal, roomRefusal}
 use Rattle.route.specs.Shown.{number, place}
 use Rattle.tcam.specs.Slots.{sizeFault}
 use Rattle.lines.specs.Lines.{maxLine}
@@ -42,6 +42,10 @@ part bs room s t = printed (stepsLeft (length bs) (length (t .addresses)) s) bs 
 abbrev pub stageFault : List ℕ → Stage → Rows → Verdict
 stageFault bs s t = sizeFault (t .addresses) (t .tags) then faultIf (not (isStageOf (length bs) s)) sizeRefusal 0
 
+-- then 9: something is left to print, and the buffer has no room for a line
+abbrev pub fillFault : List ℕ → Stage → Rows → ℕ → Verdict
+fillFault bs s t room = stageFault bs s t then faultIf (not (isDone s) && ltb room maxLine) roomRefusal 0
+
 -- what a call answers: the part's bytes and the stage behind it, or a refusal's number and place
 pub data FillAnswer : Type 0 where
   printedTo : (size : ℕ) → Stage → FillAnswer
@@ -70,7 +74,7 @@ abbrev pub fillWith : Verdict → List ℕ → Stage → Rows → List ℕ → F
 fillWith v bs s t buffer = fillBy v (part bs (length buffer) s t) t buffer
 
 abbrev pub fillOf : List ℕ → Stage → Rows → List ℕ → Fill
-fillOf bs s t buffer = fillWith (stageFault bs s t) bs s t buffer
+fillOf bs s t buffer = fillWith (fillFault bs s t (length buffer)) bs s t buffer
 
 pub record IsFill (f : Fill) (answer : FillAnswer) (t′ : Rows) (buffer′ : List ℕ) : Type 0 where
   pub answers : answer ≡ f .answer

@@ -54,18 +54,18 @@ after t (writes ws) = rows (stored (λ c. c .address) (t .addresses) ws) (stored
 abbrev pub afterUpdate : Rows → Update → Rows
 afterUpdate t u = after t (planOf t u planRoom)
 
--- the line of an update that was made, by its writes and the used slots after it
-abbrev pub madeText : ℕ → Update → ℕ → ℕ → List ℕ
-madeText nth (setting r) w used = setLine nth r w used
-madeText nth (removal a n) w used = removeLine nth a n w used
+-- the line of an accepted update, by its writes and the used slots after it
+abbrev pub acceptedText : ℕ → Update → ℕ → ℕ → List ℕ
+acceptedText nth (setting r) w used = setLine nth r w used
+acceptedText nth (removal a n) w used = removeLine nth a n w used
 
 -- an update's line, by its plan and the table after it
 abbrev pub updateText : ℕ → Update → Planned → Rows → List ℕ
 updateText nth u (refuses n p) t = refusedLine nth n
-updateText nth u (writes ws) t = madeText nth u (length ws) (usedIn (slots t))
+updateText nth u (writes ws) t = acceptedText nth u (length ws) (usedIn (slots t))
 
-abbrev pub toldText : ℕ → Rows → Update → List ℕ
-toldText nth t u = updateText nth u (planOf t u planRoom) (afterUpdate t u)
+abbrev pub reportedText : ℕ → Rows → Update → List ℕ
+reportedText nth t u = updateText nth u (planOf t u planRoom) (afterUpdate t u)
 
 -- a slot's line, nothing where it is free; and the slots from slot i on
 abbrev pub slotText : ℕ → Cell → List ℕ
@@ -94,7 +94,7 @@ items (suc k) bs at = itemsBy (items k bs) (recordAt 32 bs at)
 -- the lines of the items on a table, the first of them with this number, then the table's and the end
 abbrev pub history : ℕ → Rows → List Item → List ℕ
 history nth t [] = slotTexts 0 (slots t) ++ endLine
-history nth t (asks u ∷ is) = toldText nth t u ++ history (nth + 1) (afterUpdate t u) is
+history nth t (asks u ∷ is) = reportedText nth t u ++ history (nth + 1) (afterUpdate t u) is
 history nth t (unreadable n ∷ is) = refusedLine nth n ++ history (nth + 1) t is
 
 -- a record has at least one byte, so there are at most as many as bytes

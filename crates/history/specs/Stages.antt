@@ -7,7 +7,7 @@ use lib.ListN.{length, getD, drop}
 use Rattle.tcam.specs.Slots.{free}
 use Rattle.records.specs.Records.{Reply, update, ended, refusedAt, recordAt}
 use Rattle.lines.specs.Lines.{headerLine, refusedLine, endLine, tooLongLine}
-use Rattle.history.specs.Reports.{maxInput, Rows, slots, afterUpdate, toldText, slotText, slotTexts, items, history}
+use Rattle.history.specs.Reports.{maxInput, Rows, slots, afterUpdate, reportedText, slotText, slotTexts, items, history}
 use Rattle.route.specs.declared.Slot.{Slot}
 use Rattle.history.specs.declared.Stage.{Stage}
 use Rattle.history.specs.declared.Stage.the-variants.{TooLong, Header, Reading, Listing, Done}
@@ -44,7 +44,7 @@ run s t = record { stage = s; table = t }
 
 -- what is printed of the record that is read: its line
 abbrev pub recordText : ℕ → Rows → Reply → List ℕ
-recordText nth t (update u next) = toldText nth t u
+recordText nth t (update u next) = reportedText nth t u
 recordText nth t ended = []
 recordText nth t (refusedAt n p) = refusedLine nth n
 

@@ -9,7 +9,7 @@ use Rattle.route.specs.RightHop.{_∈_}
 use Rattle.lines.specs.Lines.{maxLine}
 use Rattle.history.specs.Reports.{reportSlots, emptyRows, report}
 use Rattle.history.specs.Stages.{startOf, isDone, Run, run, stepsLeft}
-use Rattle.history.specs.Fills.{Printed, behindText, part, stageFault}
+use Rattle.history.specs.Fills.{Printed, behindText, part, fillFault}
 
 -- the parts for buffers of these lengths, one after another
 abbrev pub parts : List ℕ → List ℕ → Run → Printed
@@ -20,10 +20,11 @@ parts bs (room ∷ rooms) r = behindText (part bs room (r .stage) (r .table) .te
 abbrev pub started : List ℕ → Run
 started bs = run (startOf (length bs)) (emptyRows reportSlots)
 
--- whatever the buffers' lengths: no part is refused, and if the report is done, the parts are the whole of it; it is done where every
--- buffer has room for a line and there are as many buffers as steps
+-- whatever the buffers' lengths: a buffer with room for a line is not refused, and if the report is done, the parts are the whole of it;
+-- it is done where every buffer has room for a line and there are as many buffers as steps
 pub record WholeReport (bs rooms : List ℕ) : Type 0 where
-  pub accepted : stageFault bs (parts bs rooms (started bs) .to .stage) (parts bs rooms (started bs) .to .table) ≡ fine
+  pub accepted :
+      (room : ℕ) → maxLine ≤ room → fillFault bs (parts bs rooms (started bs) .to .stage) (parts bs rooms (started bs) .to .table) room ≡ fine
   pub whole : isDone (parts bs rooms (started bs) .to .stage) ≡ true → parts bs rooms (started bs) .text ≡ report bs
   pub ends :
       ((room : ℕ) → room ∈ rooms → maxLine ≤ room) →

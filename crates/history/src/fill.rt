@@ -56,7 +56,8 @@ fn fill_lines(
 }
 
 // Prints the next part of the report into the buffer: the part's bytes, which stand at its front, and
-// the stage behind it. Refusal 8 for rows of unequal length or no table, or a stage of other bytes.
+// the stage behind it. Refusal 8 for rows of unequal length or no table, or a stage of other bytes; then
+// 9 for a buffer with no room for a line, unless nothing is left to print.
 pub fn fill(
     bytes: &[u8],
     stage: Stage,
@@ -75,6 +76,9 @@ pub fn fill(
     }
     if !is_stage_of(bytes.len(), stage) {
         return Filled::Refused(Refusal::Size);
+    }
+    if !stage.is_done() & (out.len() < MAX_LINE) {
+        return Filled::Refused(Refusal::Room);
     }
     fill_lines(bytes, stage, addresses, tags, out)
 }

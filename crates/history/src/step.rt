@@ -8,8 +8,8 @@ ghost use Rattle.lines.specs.Lines.{maxLine};
 ghost use Rattle.history.specs.Reports.{rows, slotText};
 ghost use Rattle.history.specs.Steps.{IsPrinted, IsStep, Ready};
 use crate::Stage;
+use crate::update::report_update;
 use crate::update::size_of;
-use crate::update::tell;
 use lines::line;
 use records::Step as Reply;
 use records::reader::read;
@@ -48,7 +48,7 @@ fn record_step(
             stage: Stage::Listing(Slot(0)),
         },
         Reply::Next(asked, next) => Stepped {
-            size: tell(nth, asked, addresses, tags, out),
+            size: report_update(nth, asked, addresses, tags, out),
             stage: Stage::Reading(nth, next),
         },
     }

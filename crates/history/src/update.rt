@@ -1,4 +1,4 @@
-// One update on the table: planned, applied whole, and told in a line.
+// One update on the table: planned, applied whole, and its line printed.
 ghost use mathlib.Core.Path.{_≡_};
 ghost use Prim.Native.Nat.{_≤_};
 ghost use lib.ListN.{length};
@@ -6,8 +6,8 @@ ghost use Rattle.route.specs.Shown.{counted};
 ghost use Rattle.records.specs.Shown.{updateOf};
 ghost use Rattle.tcam.specs.Plans.{IsPlanned};
 ghost use Rattle.lines.specs.Lines.{maxLine, IsWritten};
-ghost use Rattle.history.specs.Reports.{rows, planOf, madeText};
-ghost use Rattle.history.specs.Steps.{sizeOf, IsMade, IsTold};
+ghost use Rattle.history.specs.Reports.{rows, planOf, acceptedText};
+ghost use Rattle.history.specs.Steps.{sizeOf, IsUpdated, IsReported};
 use lines::line;
 use records::Record;
 use route::Counted;
@@ -31,10 +31,11 @@ fn plan_of(asked: Record, addresses: &[u32], tags: &[u32], plan: &mut [u32]) -> 
     }
 }
 
-// Makes what a record asks for: the number of writes, or the plan's refusal with the table as it was.
-fn make(asked: Record, addresses: &mut [u32], tags: &mut [u32]) -> Counted
+// Plans what a record asks for and applies the whole plan: the number of writes, or the plan's refusal
+// with the table as it was.
+fn update_table(asked: Record, addresses: &mut [u32], tags: &mut [u32]) -> Counted
     ensures { λ r. ⌜
-        IsMade (updateOf asked) (rows (now (addresses .entry)) (now (tags .entry)))
+        IsUpdated (updateOf asked) (rows (now (addresses .entry)) (now (tags .entry)))
         (counted r) (rows (now (addresses .exit)) (now (tags .exit))) ⌝ }
 {
     let mut plan = [0u32; PLAN_CELLS];
@@ -54,9 +55,9 @@ pub(crate) fn size_of(written: Counted) -> usize
     }
 }
 
-// The line of an update that was made.
-fn made_line(nth: usize, asked: Record, writes: usize, used: usize, out: &mut [u8]) -> Counted
-    ensures { λ r. ⌜ IsWritten (madeText nth (updateOf asked) writes used) (now (out .entry)) (counted r) (now (out .exit)) ⌝ }
+// The line of an accepted update.
+fn accepted_line(nth: usize, asked: Record, writes: usize, used: usize, out: &mut [u8]) -> Counted
+    ensures { λ r. ⌜ IsWritten (acceptedText nth (updateOf asked) writes used) (now (out .entry)) (counted r) (now (out .exit)) ⌝ }
 {
     match asked {
         Record::Set(p) => line::set(nth, p, writes, used, out),
@@ -64,8 +65,8 @@ fn made_line(nth: usize, asked: Record, writes: usize, used: usize, out: &mut [u
     }
 }
 
-// Makes what a record asks for, and prints its line: the line's bytes.
-pub(crate) fn tell(
+// Makes the update that a record asks for, and prints its line: the line's bytes.
+pub(crate) fn report_update(
     nth: usize,
     asked: Record,
     addresses: &mut [u32],
@@ -74,14 +75,14 @@ pub(crate) fn tell(
 ) -> usize
     requires { ⌜ maxLine ≤ length (now out) ⌝ }
     ensures { λ r. ⌜
-        IsTold nth (updateOf asked) (rows (now (addresses .entry)) (now (tags .entry))) (now (out .entry))
+        IsReported nth (updateOf asked) (rows (now (addresses .entry)) (now (tags .entry))) (now (out .entry))
         r (rows (now (addresses .exit)) (now (tags .exit))) (now (out .exit)) ⌝ }
 {
-    match make(asked, addresses, tags) {
+    match update_table(asked, addresses, tags) {
         Counted::Refused(f) => size_of(line::refused(nth, f, out)),
         Counted::Count(writes) => {
             let used = used_slots(addresses, tags);
-            size_of(made_line(nth, asked, writes, used, out))
+            size_of(accepted_line(nth, asked, writes, used, out))
         }
     }
 }

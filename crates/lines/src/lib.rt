@@ -7,5 +7,5 @@ pub mod decimals;
 pub mod line;
 pub mod prefixes;
 
-// The longest line, with its line end.
+// No line is longer, with its line end.
 pub const MAX_LINE: usize = 256;

@@ -8,7 +8,7 @@ use lib.Seq.{length-take-le}
 use Rattle.history.specs.Reports.{rows}
 use Rattle.history.specs.Stages.{stepsLeft}
 use Rattle.history.specs.Steps.{Ready}
-use Rattle.history.proofs.Whole.{start-ready, Goes, part-goes}
+use Rattle.history.proofs.Whole.{start-ready, NextPart, next-part}
 use Rattle.report.proofs.print_report.Statement.{statement}
 use Rattle.report.proofs.print_report.Tie as tie
 
@@ -25,20 +25,20 @@ loop-holds c =
     ((rw (c .start .ensures) (start-ready _ (rows _ _) (p .equal)), refl), refl)
 
 -- what the part leaves
-goes : (c : tie.After-size Inv-loop μ-loop) →
+printed : (c : tie.After-size Inv-loop μ-loop) →
     let f = c .before .before .before .before .before .before .before .before in
     let l = f .before .before .before .before .before .before .loop in
-    Goes (f .before .before .before .before .before .before .before .before .before .before .before .before .args .bytes .now) (l .stage) (rows (l .addresses) (l .tags)) (l .text) (c .size .given .0 .0) (c .size .given .0 .1 .0)
+    NextPart (f .before .before .before .before .before .before .before .before .before .before .before .before .args .bytes .now) (l .stage) (rows (l .addresses) (l .tags)) (l .text) (c .size .given .0 .0) (c .size .given .0 .1 .0)
     (rows (f .fill .last .1 .1 .0) (f .fill .last .1 .1 .1 .0)) (f .fill .last .1 .1 .1 .1 .0)
-goes c =
+printed c =
     let f = c .before .before .before .before .before .before .before .before in
-    part-goes (f .before .before .before .before .before .before .loop .inv .0 .0) (rw (c .size .given .1) at (f .fill .ensures))
+    next-part (f .before .before .before .before .before .before .loop .inv .0 .0) (rw (c .size .given .1) at (f .fill .ensures))
 
 slice-reshare-prefix-write-all : tie.Need-slice-reshare-prefix-write-all Inv-loop μ-loop
-slice-reshare-prefix-write-all c = goes (c .before) .fits
+slice-reshare-prefix-write-all c = printed (c .before) .fits
 
 slice-aggregate-write-all : tie.Need-slice-aggregate-write-all Inv-loop μ-loop
-slice-aggregate-write-all c = sym (length-take-le _ _ (goes (c .before .before) .fits))
+slice-aggregate-write-all c = sym (length-take-le _ _ (printed (c .before .before) .fits))
 
 loop-less : tie.Need-loop-less Inv-loop μ-loop
 loop-less c =
@@ -46,13 +46,13 @@ loop-less c =
     let d = z .before .before .before .before .before .before .before .before .before .before .before .before .before in
     let l = d .before .loop in
     rw (← (l .inv .0 .1))
-    (goes z .falls (sym (d .is-done .ensures) ∙ not-true (d .is-done .result) (z .before .before .before .before .before .before .before .before .before .before .before .before .if1 .taken)) (omega (arith, l .inv .1, d .before .before .before .before .before .before .before .pre .room)))
+    (printed z .falls (sym (d .is-done .ensures) ∙ not-true (d .is-done .result) (z .before .before .before .before .before .before .before .before .before .before .before .before .if1 .taken)) (omega (arith, l .inv .1, d .before .before .before .before .before .before .before .pre .room)))
 
 loop-again : tie.Need-loop-again Inv-loop μ-loop
 loop-again c =
     let z = c .before .before .before .before in
     let l = z .before .before .before .before .before .before .before .before .before .before .before .before .before .before .loop in
-    ((goes z .ready, goes z .slots ∙ l .inv .0 .1), search needs)
+    ((printed z .ready, printed z .slots ∙ l .inv .0 .1), search needs)
 
 pub print-report-spec : {M : Type 1} → statement M
 print-report-spec =

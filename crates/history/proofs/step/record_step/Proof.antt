@@ -1,4 +1,4 @@
--- By what is read: the end, a refusal with its line, or an update that is made and told.
+-- By what is read: the end, a refusal with its line, or an update that is made and its line printed.
 use borrow.Author.Needs.{needs}
 use mathlib.Core.Path.{sym, ap, _∙_}
 use Rattle.records.specs.Shown.{reply}
@@ -22,7 +22,7 @@ returns-3 : tie.Need-returns-3
 returns-3 c =
     let t = c .before .before .before .before .before .before in
     let a = t .before .before .before .before .before in
-    step-update _ _ _ (sym (ap reply (a .asked .given .1)) ∙ a .before .before .read .ensures) (t .tell .ensures)
+    step-update _ _ _ (sym (ap reply (a .asked .given .1)) ∙ a .before .before .read .ensures) (t .report-update .ensures)
 
 pub record-step-spec : {M : Type 1} → statement M
 record-step-spec =

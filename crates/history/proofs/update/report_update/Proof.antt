@@ -2,16 +2,16 @@
 use borrow.Author.Needs.{needs}
 use Rattle.records.specs.Shown.{updateOf}
 use Rattle.lines.proofs.Sizes.{refused-fits}
-use Rattle.history.proofs.Updates.{told-refused, told-made, line-printed, made-fits}
-use Rattle.history.proofs.update.tell.Statement.{statement}
-use Rattle.history.proofs.update.tell.Tie as tie
+use Rattle.history.proofs.Updates.{reported-refused, reported-accepted, line-printed, accepted-fits}
+use Rattle.history.proofs.update.report_update.Statement.{statement}
+use Rattle.history.proofs.update.report_update.Tie as tie
 
 returns : tie.Need-returns
 returns c =
     let l = c .before .before .before in
     let f = l .before .before .before in
     let m = f .before .before .before .before .before .before in
-    told-refused _ (rw (f .f .given .1) at (m .make .ensures))
+    reported-refused _ (rw (f .f .given .1) at (m .update-table .ensures))
     (line-printed (l .refused .ensures) (c .size-of .ensures) (refused-fits _ _) (search needs))
 
 returns-2 : tie.Need-returns-2
@@ -20,11 +20,11 @@ returns-2 c =
     let u = l .before .before in
     let w = u .before .before .before .before in
     let m = w .before .before .before .before .before .before in
-    told-made _ (rw (w .writes .given .1) at (m .make .ensures)) (u .used-slots .ensures)
-    (line-printed (l .made-line .ensures) (c .size-of2 .ensures) (made-fits _ (updateOf (m .before .before .before .before .before .before .args .asked)) _ _) (search needs))
+    reported-accepted _ (rw (w .writes .given .1) at (m .update-table .ensures)) (u .used-slots .ensures)
+    (line-printed (l .accepted-line .ensures) (c .size-of2 .ensures) (accepted-fits _ (updateOf (m .before .before .before .before .before .before .args .asked)) _ _) (search needs))
 
-pub tell-spec : {M : Type 1} → statement M
-tell-spec =
+pub report-update-spec : {M : Type 1} → statement M
+report-update-spec =
     tie.close
     (tie.spec
     (λ c κs. search needs) (λ c. search needs) (λ c κs. search needs) (λ c κs. search needs) (λ c. search needs)
