@@ -14,7 +14,8 @@ use Rattle.route.proofs.Entries.{routes-length, routes-addresses}
 use Rattle.route.proofs.Members.{eachAt}
 use Rattle.route.proofs.Tests.{answered, refuses}
 use Rattle.ranges.specs.Ranges.{maxRanges, Range, ranges, startsOf, hopsOf}
-use Rattle.ranges.specs.Builds.{overwritten, outputAfter, tableOf, rangesAnswer, IsBuilt as Made}
+use Rattle.route.specs.Rows.{overwritten}
+use Rattle.ranges.specs.Builds.{outputAfter, tableOf, rangesAnswer, IsBuilt as Made}
 use Rattle.ranges.proofs.Rooms.{built-roomy}
 use Rattle.ranges.proofs.Rows.{rowsSay}
 use Rattle.ranges.proofs.RangesAgree.{rangesFew, rangesFine}

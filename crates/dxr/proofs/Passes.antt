@@ -12,7 +12,7 @@ use lib.Pow.{pow-pos}
 use lib.Seq.{length-sets, sets}
 use Rattle.route.proofs.Tests.{orders, byTest}
 use Rattle.ranges.specs.Ranges.{Range, ranges, startsOf}
-use Rattle.ranges.specs.Builds.{overwritten}
+use Rattle.route.specs.Rows.{overwritten}
 use Rattle.ranges.proofs.Rows.{startsSay}
 use Rattle.dxr.specs.Dxr.{chunkSize, chunk, words, mainWord, allWords, mainWords, tableWords, tableMain}
 use Rattle.dxr.specs.Splits.{Split}

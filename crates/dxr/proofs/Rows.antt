@@ -1,14 +1,15 @@
 -- Rows of numbers written in parts, and filled with one number.
 use Prim.Native.Nat.{ℕ, suc, _+_, _-_, _≤_, _<_}
 use mathlib.Core.Path.{_≡_, sym}
-use mathlib.Core.List.{List, [], _∷_, _++_, append-assoc}
+use mathlib.Core.List.{List, _++_, append-assoc}
 use native.Mathlib.Omega.{arith}
-use native.Mathlib.Nat.{add-zero, zero-add}
+use native.Mathlib.Nat.{zero-add}
 use borrow.Rule.Slice.PartMut.{putMid}
 use native.Mathlib.Numerals.{add-one}
 use lib.ListN.{length, take, drop, set, replicate, length-set}
 use lib.Seq.{drop-drop, sets, sets-eq}
-use Rattle.ranges.specs.Builds.{overwritten}
+use Rattle.route.specs.Rows.{overwritten}
+use Rattle.route.proofs.Parts.{sets-append}
 
 -- a part put back is a part written
 pub put-sets : (row part : List ℕ) (at n : ℕ) → length part ≡ n → at + n ≤ length row → putMid at n row part ≡ sets row at part
@@ -16,12 +17,6 @@ put-sets row part at n e l =
     rw (drop-drop n at row, ← append-assoc (take at row) part (drop (at + n) row)) (sym (rw e at (sets-eq part row at (rw e l))))
 
 -- in two goes
-sets-append : (row : List ℕ) (at : ℕ) (xs ys : List ℕ) → sets row at (xs ++ ys) ≡ sets (sets row at xs) (at + length xs) ys
-sets-append row at [] ys = rw (add-zero at)
-sets-append row at (x ∷ xs) ys =
-    let e : at + suc (length xs) ≡ suc at + length xs = omega arith in
-    rw e (sets-append (set row at x) (suc at) xs ys)
-
 pub sets-more : (row xs ys : List ℕ) {at : ℕ} → at ≡ length xs → sets (sets row 0 xs) at ys ≡ sets row 0 (xs ++ ys)
 sets-more row xs ys e = rw e (sym (rw zero-add at (sets-append row 0 xs ys)))
 

@@ -10,7 +10,7 @@ ghost use lib.ListN.{length, getD, take, drop, replicate};
 ghost use lib.Seq.{sets};
 ghost use Rattle.route.specs.Shown.{counted};
 ghost use Rattle.ranges.specs.Ranges.{ranges};
-ghost use Rattle.ranges.specs.Builds.{overwritten};
+ghost use Rattle.route.specs.Rows.{overwritten};
 ghost use Rattle.dxr.specs.Dxr.{tableWords, tableMain};
 ghost use Rattle.dxr.specs.Builds.{IsBuilt};
 ghost use Rattle.dxr.specs.Loops.{LastAt, Splittable, IsSplit};

@@ -6,6 +6,7 @@ ghost use Rattle.hawkmortar.specs.Outcomes.{outcome};
 ghost use Rattle.route.specs.Refusals.{Answer};
 ghost use Rattle.route.specs.Shown.{number, place, counted, shown};
 ghost use Rattle.route.specs.Lists.{listCheck, listLookup};
+ghost use Rattle.prefixes.specs.Prefixes.{prefixesCheck, prefixesLookup};
 ghost use Rattle.tcam.specs.Slots.{slotCheck, slotLookup};
 ghost use Rattle.tcam.specs.Plans.{planSet, planRemove, planAnswer, rowAfter};
 ghost use Rattle.tcam.specs.Applies.{applyAnswer, appliedAddresses, appliedTags};
@@ -23,6 +24,7 @@ use route::Counted;
 use route::Found;
 use route::Hop;
 use route::Length;
+use route::Prefix;
 use route::Refusal;
 
 #[repr(C)]
@@ -50,6 +52,22 @@ pub extern "C" fn hawkmortar_list_lookup(
     ensures { λ r. ⌜ r ≡ outcome (listLookup 32 (now (addresses .entry)) (now (lengths .entry)) (now (hops .entry)) q) ⌝ }
 {
     of_found(route::list::lookup(addresses, lengths, hops, q))
+}
+
+// Tests a list that is one slice of prefixes; the value is the number of entries.
+#[no_mangle]
+pub extern "C" fn hawkmortar_prefixes_check(list: &[Prefix]) -> Outcome
+    ensures { λ r. ⌜ r ≡ outcome (prefixesCheck 32 (now (list .entry))) ⌝ }
+{
+    of_counted(prefixes::check(list))
+}
+
+// Looks q up in such a list; the value is the next hop, 0 for none.
+#[no_mangle]
+pub extern "C" fn hawkmortar_prefixes_lookup(list: &[Prefix], q: u32) -> Outcome
+    ensures { λ r. ⌜ r ≡ outcome (prefixesLookup 32 (now (list .entry)) q) ⌝ }
+{
+    of_found(prefixes::lookup(list, q))
 }
 
 // Tests a table; the value is the number of used slots.

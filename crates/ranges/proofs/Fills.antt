@@ -13,7 +13,7 @@ use Rattle.route.specs.Loops.{routeAt}
 use Rattle.route.proofs.Entries.{routes-length, routes-get}
 use Rattle.ranges.specs.Ranges.{Range}
 use Rattle.ranges.specs.Words.{keyOf, rangeIn, rangesIn}
-use Rattle.ranges.specs.Builds.{overwritten}
+use Rattle.route.specs.Rows.{overwritten}
 use Rattle.ranges.specs.Loops.{keysOf}
 
 pub record FilledTo (values row₀ row : List ℕ) (i : ℕ) : Type 0 where

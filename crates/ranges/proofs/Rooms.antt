@@ -14,7 +14,8 @@ use Rattle.route.proofs.Accepted.{rowsOfSet}
 use Rattle.route.proofs.Entries.{routes-length}
 use Rattle.ranges.specs.Ranges.{maxRanges, Range, startsOf, hopsOf}
 use Rattle.ranges.specs.Words.{rangeIn, rangesIn}
-use Rattle.ranges.specs.Builds.{overwritten, tableOf, rangesAnswer, IsBuilt}
+use Rattle.route.specs.Rows.{overwritten}
+use Rattle.ranges.specs.Builds.{tableOf, rangesAnswer, IsBuilt}
 use Rattle.ranges.proofs.RangesAgree.{rangesFew}
 
 -- there are as many ranges as words

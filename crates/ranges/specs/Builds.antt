@@ -2,16 +2,13 @@
 use Prim.Native.Nat.{ℕ}
 use mathlib.Core.Path.{_≡_}
 use mathlib.Core.Bool.{_||_}
-use mathlib.Core.List.{List, _++_}
+use mathlib.Core.List.{List}
 use lib.Dec.{ltb}
-use lib.ListN.{length, drop}
+use lib.ListN.{length}
 use Rattle.route.specs.Refusals.{faultIf, _then_, Answer, value, refused, unlessFault, roomRefusal}
 use Rattle.route.specs.Lists.{routes, rowsFault}
+use Rattle.route.specs.Rows.{overwritten}
 use Rattle.ranges.specs.Ranges.{Range, rangesOf, startsOf, hopsOf}
-
--- a row with its first cells written over
-abbrev pub overwritten : List ℕ → List ℕ → List ℕ
-overwritten built row = built ++ drop (length built) row
 
 -- an output row after a call: what was built, then the cells past it as found; the row as it was where the call is refused
 abbrev pub outputAfter : Answer → List ℕ → List ℕ → List ℕ

@@ -1,4 +1,3 @@
 -- What the walks of the reader's functions share.
 mod Typed
-mod Call
 mod RecordAt

@@ -12,3 +12,6 @@ pub mod Lookups
 pub mod Determined
 pub mod Searches
 pub mod Entries
+-- Steps of a walk by hand.
+pub mod Call
+pub mod PassOn

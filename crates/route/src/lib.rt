@@ -20,15 +20,18 @@ pub const MAX_ROUTES: usize = 4096;
 pub const MAX_HOP: u32 = 65535;
 
 // The length of a prefix in bits.
+#[repr(C)]
 pub struct Length(pub u32);
 
 // A next hop.
+#[repr(C)]
 pub struct Hop(pub u32);
 
 // A slot's place in a table.
 pub struct Slot(pub usize);
 
 // A prefix with its next hop.
+#[repr(C)]
 pub struct Prefix {
     pub address: u32,
     pub length: Length,

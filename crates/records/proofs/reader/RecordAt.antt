@@ -38,7 +38,7 @@ use Rattle.records.specs.declared.reader.Reader.{Reader}
 use Rattle.records.proofs.Step as S
 use Rattle.records.proofs.reader.Reader as T
 use Rattle.records.proofs.reader.Reader.Laws as T′
-use Rattle.records.proofs.reader.Call.{calls-fact}
+use Rattle.route.proofs.Call.{calls-fact}
 use Rattle.records.proofs.record_at as record-at
 use Rattle.records.proofs.record_at.Symbol.{name as #records·record-at}
 

@@ -51,7 +51,7 @@ use Rattle.records.proofs.Step.Laws as S′
 use Rattle.records.proofs.reader.Reader as T
 use Rattle.records.proofs.reader.Reader.Laws as T′
 use Rattle.records.proofs.reader.Typed.{typed-reader, typed-step}
-use Rattle.records.proofs.reader.Call.{calls-fact}
+use Rattle.route.proofs.Call.{calls-fact}
 use Rattle.records.proofs.reader.RecordAt.{RecordAt, asks}
 use Rattle.records.proofs.record_at.Symbol as record-at-def
 use Rattle.records.proofs.record_at.Symbol.{name as #records·record-at}

@@ -38,7 +38,7 @@ use Rattle.records.specs.declared.Step.{Step}
 use Rattle.records.specs.declared.reader.Reader.{Reader}
 use Rattle.records.proofs.Step as S
 use Rattle.records.proofs.reader.Typed.{B, typed-reader, typed-step}
-use Rattle.records.proofs.reader.Call.{calls-fact}
+use Rattle.route.proofs.Call.{calls-fact}
 use Rattle.records.proofs.reader.reader_at as reader-at
 use Rattle.records.proofs.reader.reader_at.Symbol as reader-at-def
 use Rattle.records.proofs.reader.reader_at.Symbol.{name as #records·reader·reader-at}
