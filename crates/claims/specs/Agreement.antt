@@ -3,14 +3,17 @@
 use Prim.Native.Nat.{ℕ, _+_, _-_, _*_, _^_, _≤_, _<_}
 use mathlib.Core.Path.{_≡_}
 use mathlib.Core.Logic.{_↔_}
-use mathlib.Core.List.{List, [], _∷_, _++_}
+use mathlib.Core.List.{List, [], _∷_, _++_, map}
 use lib.ListN.{length}
 use Rattle.route.specs.Rule.{Route, answer}
 use Rattle.route.specs.Refusals.{fine, value}
 use Rattle.route.specs.RightHop.{_∈_, Right}
 use Rattle.route.specs.Lists.{routes, rowsFault, listLookup}
-use Rattle.route.specs.Limits.{maxHop}
+use Rattle.route.specs.Limits.{maxHop, maxRoutes}
 use Rattle.route.specs.RowsOfSet.{Valid, Distinct, RowsOfSet}
+use Rattle.route.specs.Shown.{routeOf}
+use Rattle.route.specs.declared.Prefix.{Prefix}
+use Rattle.prefixes.specs.Prefixes.{prefixesCheck, prefixesLookup}
 use Rattle.tcam.specs.Slots.{maxSlots, Cell, slotLookup}
 use Rattle.tcam.specs.Tables.{addresses, tags, TableOf}
 use Rattle.ranges.specs.Ranges.{Range, range, rangesOf, startsOf, hopsOf, tableFault, hopAt, rangeLookup}
@@ -49,12 +52,26 @@ pub record RangesFor (W : ℕ) (rs : List Route) (t : List Range) : Type 0 where
   pub below : (x : ℕ) → x ∈ startsOf t → x < 2 ^ W
   pub answers : (q : ℕ) → q < 2 ^ W → hopAt 0 t q ≡ answer W rs q
 
+-- a list that is one slice of prefixes, in the words of their routes: those that are accepted are those of a set, and such a list
+-- answers every address, right
+pub record SetOfPrefixes (W : ℕ) (ps : List Prefix) : Type 0 where
+  pub few : length ps ≤ maxRoutes
+  pub valid : (r : Route) → r ∈ map routeOf ps → Valid W r
+  pub distinct : Distinct (map routeOf ps)
+
+pub record PrefixList (W : ℕ) (ps : List Prefix) : Type 0 where
+  pub premise : (prefixesCheck W ps ≡ value (length ps)) ↔ SetOfPrefixes W ps
+  pub right : SetOfPrefixes W ps → (q : ℕ) → Right W (map routeOf ps) q (answer W (map routeOf ps) q)
+  pub list : SetOfPrefixes W ps → (q : ℕ) → prefixesLookup W ps q ≡ value (answer W (map routeOf ps) q)
+
 -- the lists that are accepted are those of a set; such a list and all that is built from it answer every address, right; no other answer
--- is right; its merged ranges are the one table for it; what is built fits; and the ranges of no routes are one without a hop
+-- is right; the same holds of a list that is one slice of prefixes; its merged ranges are the one table for it; what is built fits; and
+-- the ranges of no routes are one without a hop
 pub record Demand2 : Type 0 where
   pub premise : (W : ℕ) (ad ns hs : List ℕ) → (rowsFault W ad ns hs ≡ fine) ↔ RowsOfSet W ad ns hs
   pub agree : (W : ℕ) (ad ns hs : List ℕ) → RowsOfSet W ad ns hs → (q : ℕ) → Agree W ad ns hs q (answer W (routes ad ns hs) q)
   pub only : (W : ℕ) (ad ns hs : List ℕ) → RowsOfSet W ad ns hs → (q h : ℕ) → Right W (routes ad ns hs) q h → h ≡ answer W (routes ad ns hs) q
+  pub prefixes : (W : ℕ) (ps : List Prefix) → PrefixList W ps
   pub table : (W : ℕ) (ad ns hs : List ℕ) → RowsOfSet W ad ns hs → Addresses W ad → (t : List Range) →
       RangesFor W (routes ad ns hs) t ↔ (t ≡ rangesOf W (routes ad ns hs))
   pub fits : (W : ℕ) (ad ns hs : List ℕ) → RowsOfSet W ad ns hs → Addresses W ad → Fits W (routes ad ns hs)

@@ -1,5 +1,5 @@
--- `tell_64`, `tell_512` and `tell_4096` meet their contracts (`tell-met`): one walk of the MIR that they share but for the number n of elements of their array.
--- The array of zeros is taken apart into its elements. These are lent to `copy_rows` for a lifetime that is made for the call, come back with the rows, are lent to `answer` for a second lifetime, and are room for the array again.
+-- `query_64`, `query_512` and `query_4096` meet their contracts (`query-met`): one walk of the MIR that they share but for the number n of elements of their array.
+-- The array of zeros is taken apart into its elements. These are lent to `copy_rows` for a lifetime that is made for the call, come back with the rows, are lent to `query_rows` for a second lifetime, and are room for the array again.
 -- All that the proof knows of the two callees is that each meets its contract.
 use mathlib.Core.Path.{_≡_, refl, sym, _∙_, subst}
 use Prim.Native.Nat.{ℕ, zero, suc, _*_, _≤_, _<_, _^_}
@@ -55,22 +55,22 @@ use Rattle.route.specs.Rows.{overwritten}
 use Rattle.route.specs.declared.Prefix.{Prefix}
 use Rattle.route.proofs.Prefix as T
 use Rattle.route.proofs.Call.{calls-fact}
-use Rattle.prefixes.specs.Told.{threeRows, first, second, third, Tells, TellsOf}
-use Rattle.prefixes.specs.declared.Told.{Told}
+use Rattle.prefixes.specs.Queries.{threeRows, first, second, third, IsReply, IsReplyOf}
+use Rattle.prefixes.specs.declared.Reply.{Reply}
 use Rattle.prefixes.proofs.Listed.{listTy, listed}
 use Rattle.prefixes.proofs.Limited.{signature, ended, stayed, limited}
 use Rattle.prefixes.proofs.Walk.{Free, Full, big-lit}
 use Rattle.prefixes.proofs.Rows.{first-row, second-row, third-row, length-overwritten}
-use Rattle.prefixes.proofs.Told as R
-use Rattle.prefixes.proofs.Told.Laws as R′
+use Rattle.prefixes.proofs.Reply as R
+use Rattle.prefixes.proofs.Reply.Laws as R′
 use Rattle.prefixes.proofs.copy_rows as copy-rows
 use Rattle.prefixes.proofs.copy_rows.Met as copy-rows-thm
 use Rattle.prefixes.proofs.copy_rows.Symbol as copy-rows-def
 use Rattle.prefixes.proofs.copy_rows.Symbol.{name as #prefixes·copy-rows}
-use Rattle.prefixes.proofs.answer as answer
-use Rattle.prefixes.proofs.answer.Met as answer-thm
-use Rattle.prefixes.proofs.answer.Symbol as answer-def
-use Rattle.prefixes.proofs.answer.Symbol.{name as #prefixes·answer}
+use Rattle.prefixes.proofs.query_rows as query-rows
+use Rattle.prefixes.proofs.query_rows.Met as query-rows-thm
+use Rattle.prefixes.proofs.query_rows.Symbol as query-rows-def
+use Rattle.prefixes.proofs.query_rows.Symbol.{name as #prefixes·query-rows}
 
 -- ---- the function, by the number n of elements and by how MIR writes n
 abbrev count : Bool → ℕ → Operand
@@ -95,7 +95,7 @@ body big n =
     (seq (assign (place 8 []) (addrOf (place 4 [])))
     (seq (assign (place 9 []) (aggregate (copy (place 8 []) ∷ count big n ∷ [])))
     (seq (assign (place 10 []) (rvOpd (copy (place 1 (field 1 ∷ [])))))
-    (seq (call #prefixes·answer (copy (place 9 []) ∷ copy (place 10 []) ∷ copy (place 2 []) ∷ copy (place 3 []) ∷ []) (place 0 []))
+    (seq (call #prefixes·query-rows (copy (place 9 []) ∷ copy (place 10 []) ∷ copy (place 2 []) ∷ copy (place 3 []) ∷ []) (place 0 []))
     return)))))))
 
 abbrev function : Bool → ℕ → Fn
@@ -164,8 +164,8 @@ module _ {M : Type 1} (𝓤 : URA M) (H : Heap 𝓤) (A : Atoms 𝓤) (at-mem : 
   abbrev CopyRows : Contract 𝓤
   CopyRows = tripleOf 𝓤 H A copy-rows.signature (copy-rows.spec 𝓤 H A at-mem run)
 
-  abbrev Answer : Contract 𝓤
-  Answer = tripleOf 𝓤 H A answer.signature (answer.spec 𝓤 H A at-mem run)
+  abbrev QueryRows : Contract 𝓤
+  QueryRows = tripleOf 𝓤 H A query-rows.signature (query-rows.spec 𝓤 H A at-mem run)
 
 -- ---- the walk, at a list s of at most n / 3 entries
 module _ {M : Type 1} (𝓤 : URA M) (H : Heap 𝓤) (A : Atoms 𝓤) (W : Given 𝓤 H A) (at-mem : Memory → SProp 𝓤) (run : Routine → Fun 𝓤) (big : Bool) (most n : ℕ) (room : Room u32 n)
@@ -199,11 +199,11 @@ module _ {M : Type 1} (𝓤 : URA M) (H : Heap 𝓤) (A : Atoms 𝓤) (W : Given
   length-rows : length rows ≡ n
   length-rows = length-overwritten ys (zeros n) fits-zeros ∙ length-replicate n 0
 
-  abbrev Said : Told → Type 0
-  Said r = Tells 32 looking (first (length ys) rows) (second (length ys) rows) (third (length ys) rows) k r
+  abbrev Said : Reply → Type 0
+  Said r = IsReply 32 looking (first (length ys) rows) (second (length ys) rows) (third (length ys) rows) k r
 
-  tells : (r : Told) → Said r → TellsOf 32 looking ys k r
-  tells r t = record {
+  replies : (r : Reply) → Said r → IsReplyOf 32 looking ys k r
+  replies r t = record {
     tested = λ e. t .tested e ∙ (λ i. listCheck 32 (first-row ys (zeros n) i) (second-row ys (zeros n) i) (third-row ys (zeros n) i));
     found = λ e. t .found e ∙ (λ i. listLookup 32 (first-row ys (zeros n) i) (second-row ys (zeros n) i) (third-row ys (zeros n) i) k);
   }
@@ -224,27 +224,27 @@ module _ {M : Type 1} (𝓤 : URA M) (H : Heap 𝓤) (A : Atoms 𝓤) (W : Given
       qed W ((‵ (flft κ q) ⊛ ‵ (flft (α ∷ []) fullShare)) ∷ ‵ Own ∷ ‵ (MutOwn α l γ) ∷ []) ∵ says ! fits-zeros $
       split ! $ nothing ! $ move ! (2 ∷ 0 ∷ []) $ join ! $ move ! (1 ∷ 0 ∷ []) $ join ! $ frame ! $ nothing ! $ move ! (1 ∷ 2 ∷ 0 ∷ []) $ done !
 
-  -- the same of `answer`, with the rows lent for β
+  -- the same of `query_rows`, with the rows lent for β
   abbrev ShrOwn : ℕ → ℕ → GName → Fml
   ShrOwn β l γ = ShrSlice (named 0) (β ∷ []) u32 .own (lent l γ rows) (sliceVal (l, 0) (length rows) ∷ [])
 
-  abbrev to-answer : ℕ → ℕ → GName → Answer 𝓤 H A at-mem run .Ghost
-  to-answer β l γ = (((β ∷ [], tt), (fullShare, tt), tt, (lent l γ rows, (length ys, (looking, (k, tt)))), (sliceVal (l, 0) (length rows) ∷ [], (vint w64 (length ys) ∷ [], (vbool looking ∷ [], (vint w32 k ∷ [], tt))))), tt)
+  abbrev to-query : ℕ → ℕ → GName → QueryRows 𝓤 H A at-mem run .Ghost
+  to-query β l γ = (((β ∷ [], tt), (fullShare, tt), tt, (lent l γ rows, (length ys, (looking, (k, tt)))), (sliceVal (l, 0) (length rows) ∷ [], (vint w64 (length ys) ∷ [], (vbool looking ∷ [], (vint w32 k ∷ [], tt))))), tt)
 
-  goes-answer : (β l : ℕ) (γ : GName) → ent 𝓤 (⋆ 𝓤 H A (‵ (flft (β ∷ []) fullShare) ∷ ‵ (ShrOwn β l γ) ∷ [])) (Answer 𝓤 H A at-mem run .pre (to-answer β l γ))
-  goes-answer β l γ =
+  goes-query : (β l : ℕ) (γ : GName) → ent 𝓤 (⋆ 𝓤 H A (‵ (flft (β ∷ []) fullShare) ∷ ‵ (ShrOwn β l γ) ∷ [])) (QueryRows 𝓤 H A at-mem run .pre (to-query β l γ))
+  goes-query β l γ =
       qed W (‵ (flft (β ∷ []) fullShare) ∷ ‵ (ShrOwn β l γ) ∷ []) ∵ says ! (subst (λ (m : ℕ). 3 * length ys ≤ m) (sym length-rows) enough) $ nothing ! $ move ! (1 ∷ 0 ∷ []) $ join ! $ frame ! $
       nothing ! $ owned ! u32 (Is u32) (uint-makes 𝓤 H A W w32) k _ (refl, gk) $ fjoin ! $ owned ! bool (Is bool) (bool-makes 𝓤 H A W) looking _ refl $ fjoin ! $
       owned ! usize (Is usize) (uint-makes 𝓤 H A W w64) (length ys) _ (refl, g .0) $ fjoin ! $ move ! (1 ∷ 0 ∷ []) $ done !
 
-  exits : (r : Told) (u : Val) → Said r → ent 𝓤 (⋆ 𝓤 H A (‵ (R.the-row .own r (u ∷ [])) ∷ ‵ (flft κ q) ∷ ‵ Own ∷ [])) (Post u)
+  exits : (r : Reply) (u : Val) → Said r → ent 𝓤 (⋆ 𝓤 H A (‵ (R.the-row .own r (u ∷ [])) ∷ ‵ (flft κ q) ∷ ‵ Own ∷ [])) (Post u)
   exits r u t =
       qed W (‵ (R.the-row .own r (u ∷ [])) ∷ ‵ (flft κ q) ∷ ‵ Own ∷ []) ∵
-      suffices ! _ (ends-at 𝓤 H A ended stayed (limited 𝓤 most) W (((κ, tt), (q, tt), tt, x, at), tt) u r (tt, (tt, (tt, tt))) (tt, (tt, (tt, tt)))) $ says ! (tells r t) $
+      suffices ! _ (ends-at 𝓤 H A ended stayed (limited 𝓤 most) W (((κ, tt), (q, tt), tt, x, at), tt) u r (tt, (tt, (tt, tt))) (tt, (tt, (tt, tt)))) $ says ! (replies r t) $
       nothing ! $ move ! (2 ∷ 0 ∷ []) $ join ! $ frame ! $ nothing ! $ owned ! u32 (Is u32) (uint-makes 𝓤 H A W w32) k _ (refl, gk) $ fjoin ! $ owned ! bool (Is bool) (bool-makes 𝓤 H A W) looking _ refl $ fjoin ! $
       move ! (2 ∷ 0 ∷ []) $ fjoin ! $ frame ! $ done !
 
-  module _ (𝓣 : Tables 𝓤 H) (known-copy : Triple 𝓤 (𝓣 .C #prefixes·copy-rows) (CopyRows 𝓤 H A at-mem run)) (known-answer : Triple 𝓤 (𝓣 .C #prefixes·answer) (Answer 𝓤 H A at-mem run)) where
+  module _ (𝓣 : Tables 𝓤 H) (known-copy : Triple 𝓤 (𝓣 .C #prefixes·copy-rows) (CopyRows 𝓤 H A at-mem run)) (known-query : Triple 𝓤 (𝓣 .C #prefixes·query-rows) (QueryRows 𝓤 H A at-mem run)) where
     module _ (l₀ l₁ l₂ l₃ l₄ l₅ l₆ l₇ l₈ l₉ l₁₀ : ℕ) where
       abbrev En : Env 𝓤 H
       En = (R′.mir, l₀) ∷ (listTy, l₁) ∷ (tyBool, l₂) ∷ (tyInt w32, l₃) ∷ (arrayTy n, l₄) ∷ (tyUnit, l₅) ∷ (tyRef erased mut (arrayTy n), l₆) ∷ (mutTy, l₇) ∷ (tyRef erased imm (arrayTy n), l₈) ∷ (shrTy, l₉) ∷ (tyInt w64, l₁₀) ∷ []
@@ -282,8 +282,8 @@ module _ {M : Type 1} (𝓤 : URA M) (H : Heap 𝓤) (A : Atoms 𝓤) (W : Given
           rewrite ! 5 (λ (m : ℕ). ‵ (fat fullShare shrTy l₉ 0 (sliceVal (l₄, 0) m))) (sym length-rows) refl $
           lft-new ! tt (λ β. move ! (1 ∷ []) $ use1 W (later (some (λ (γ′ : GName). ‵ (ShrOwn β l₄ γ′) ⊛ ‵ (flent (β ∷ []) (arr-parts (shares u32) (length rows) .part fullShare rows l₄ 0)))))
           (lends-shr-slice 𝓤 H A W u32 (named 0) (β ∷ []) fullShare rows l₄ 0 (subst (Room u32) (sym length-rows) room)) $ await ! tt $ pick ! (λ γ′. split ! $
-          move ! (2 ∷ 0 ∷ []) $ use2 W (raw (Answer 𝓤 H A at-mem run .pre (to-answer β l₄ γ′))) (goes-answer β l₄ γ′) $
-          calls-fact 𝓤 H A W answer.ended (answer.clauses 𝓤 H A at-mem run) (to-answer β l₄ γ′) Said (λ r end. id⊢ 𝓤 _) ! (fmOf 𝓤 H (W .laws) 𝓣) known-answer
+          move ! (2 ∷ 0 ∷ []) $ use2 W (raw (QueryRows 𝓤 H A at-mem run .pre (to-query β l₄ γ′))) (goes-query β l₄ γ′) $
+          calls-fact 𝓤 H A W query-rows.ended (query-rows.clauses 𝓤 H A at-mem run) (to-query β l₄ γ′) Said (λ r end. id⊢ 𝓤 _) ! (fmOf 𝓤 H (W .laws) 𝓣) known-query
           (and-then ! (load ! (from ! (stop !)) (look ! 6 refl)) (and-then ! (load ! (from ! (stop !)) (look ! 4 refl)) (and-then ! (load ! (from ! (stop !)) (look ! 19 refl)) (and-then ! (load ! (from ! (stop !)) (look ! 17 refl)) (no-more !))))) (λ r w t is′.
           land ! (from ! (stop !)) (init ! 24 refl (LL.lawful R.the-type R′.the-laws 𝓤 H A W .typed r (w ∷ []) is′ .0)) $
           move ! (1 ∷ []) $ use1 W (‵ (flft (β ∷ []) fullShare) ⊛ ‵ ftrue) (id⊢ 𝓤 _) $ split ! $ lft-end ! tt $ move ! (0 ∷ 3 ∷ []) $ lent-back ! tt $ use1 W (‵ (froom (arrayTy n) l₄ 0)) (emptied 𝓤 H A W n rows l₄ length-rows) $
@@ -301,23 +301,23 @@ module _ {M : Type 1} (𝓤 : URA M) (H : Heap 𝓤) (A : Atoms 𝓤) (W : Given
         begins l₀ l₁ l₂ l₃ l₄ l₅ l₆ l₇ l₈ l₉ l₁₀)))))))))))
 
 module _ {M : Type 1} (𝓤 : URA M) (H : Heap 𝓤) (A : Atoms 𝓤) (W : Given 𝓤 H A) (at-mem : Memory → SProp 𝓤) (run : Routine → Fun 𝓤) (big : Bool) (most n : ℕ) (room : Room u32 n) (enough : 3 * most ≤ n)
-    (𝓣 : Tables 𝓤 H) (known-copy : Triple 𝓤 (𝓣 .C #prefixes·copy-rows) (CopyRows 𝓤 H A at-mem run)) (known-answer : Triple 𝓤 (𝓣 .C #prefixes·answer) (Answer 𝓤 H A at-mem run)) where
-  tell-walks : Walks 𝓤 H A ended stayed (WpFn 𝓤 H (𝓣 .C) (𝓣 .Λ) (function big n)) (limited 𝓤 most)
-  tell-walks = walked 𝓤 H A ended stayed (limited 𝓤 most) (WpFn 𝓤 H (𝓣 .C) (𝓣 .Λ) (function big n)) (λ κs. (slice-vals, (bool-vals, (uint-vals w32, tt)))) (λ κs. (shr-slice-tells (named 0) (κs .0) T.the-row, (bool-tells, (uint-tells w32, tt))))
-      (λ κs qs bounds a g are. needs 𝓤 _ _ (λ few. walk 𝓤 H A W at-mem run big most n room (κs .0) (qs .0) (a .0) (a .1 .0) (a .1 .1 .0) (are .0 .0 .1) (are .1 .1 .0 .1) (le-trans (mul-le-mul-left 3 few) enough) 𝓣 known-copy known-answer))
+    (𝓣 : Tables 𝓤 H) (known-copy : Triple 𝓤 (𝓣 .C #prefixes·copy-rows) (CopyRows 𝓤 H A at-mem run)) (known-query : Triple 𝓤 (𝓣 .C #prefixes·query-rows) (QueryRows 𝓤 H A at-mem run)) where
+  query-walks : Walks 𝓤 H A ended stayed (WpFn 𝓤 H (𝓣 .C) (𝓣 .Λ) (function big n)) (limited 𝓤 most)
+  query-walks = walked 𝓤 H A ended stayed (limited 𝓤 most) (WpFn 𝓤 H (𝓣 .C) (𝓣 .Λ) (function big n)) (λ κs. (slice-vals, (bool-vals, (uint-vals w32, tt)))) (λ κs. (shr-slice-tells (named 0) (κs .0) T.the-row, (bool-tells, (uint-tells w32, tt))))
+      (λ κs qs bounds a g are. needs 𝓤 _ _ (λ few. walk 𝓤 H A W at-mem run big most n room (κs .0) (qs .0) (a .0) (a .1 .0) (a .1 .1 .0) (are .0 .0 .1) (are .1 .1 .0 .1) (le-trans (mul-le-mul-left 3 few) enough) 𝓣 known-copy known-query))
 
-  tell-meets : Meets 𝓤 H A signature (WpFn 𝓤 H (𝓣 .C) (𝓣 .Λ) (function big n)) (closing 𝓤 H A ended (limited 𝓤 most))
-  tell-meets = walk-meets 𝓤 H A ended stayed W (goes-none-slice 𝓤 H A W 1 (0 ∷ []) tt (plain (λ _. T.the-row)) yes, (goes-none 𝓤 H A W 1 (λ _. bool) yes (λ κs x f. refl), (goes-none 𝓤 H A W 1 (λ _. u32) yes (λ κs x f. refl), tt)))
-      (limited 𝓤 most) (WpFn 𝓤 H (𝓣 .C) (𝓣 .Λ) (function big n)) (WpFn-mono 𝓤 H (W .laws) 𝓣 (function big n)) tell-walks
+  query-meets : Meets 𝓤 H A signature (WpFn 𝓤 H (𝓣 .C) (𝓣 .Λ) (function big n)) (closing 𝓤 H A ended (limited 𝓤 most))
+  query-meets = walk-meets 𝓤 H A ended stayed W (goes-none-slice 𝓤 H A W 1 (0 ∷ []) tt (plain (λ _. T.the-row)) yes, (goes-none 𝓤 H A W 1 (λ _. bool) yes (λ κs x f. refl), (goes-none 𝓤 H A W 1 (λ _. u32) yes (λ κs x f. refl), tt)))
+      (limited 𝓤 most) (WpFn 𝓤 H (𝓣 .C) (𝓣 .Λ) (function big n)) (WpFn-mono 𝓤 H (W .laws) 𝓣 (function big n)) query-walks
 
 -- where a key means the function with n elements, and the callees' keys mean their routines, the key meets the contract for at most `most` entries
-pub tell-met : {M : Type 1} (𝓤 : URA M) (H : Heap 𝓤) (𝓜 : Model 𝓤 H) (𝓖 : GhostRules 𝓤 H) (𝓡 : Running 𝓤 H 𝓜) (big : Bool) (most n : ℕ) → Room u32 n → 3 * most ≤ n
-    → (env : Routines) (key : Name) → Closed 𝓤 H (tables 𝓤 H 𝓜 𝓡 env .C) (tables 𝓤 H 𝓜 𝓡 env .Λ) key (function big n) → env #prefixes·copy-rows ≡ copy-rows-def.routine → env #prefixes·answer ≡ answer-def.routine
+pub query-met : {M : Type 1} (𝓤 : URA M) (H : Heap 𝓤) (𝓜 : Model 𝓤 H) (𝓖 : GhostRules 𝓤 H) (𝓡 : Running 𝓤 H 𝓜) (big : Bool) (most n : ℕ) → Room u32 n → 3 * most ≤ n
+    → (env : Routines) (key : Name) → Closed 𝓤 H (tables 𝓤 H 𝓜 𝓡 env .C) (tables 𝓤 H 𝓜 𝓡 env .Λ) key (function big n) → env #prefixes·copy-rows ≡ copy-rows-def.routine → env #prefixes·query-rows ≡ query-rows-def.routine
     → Meets 𝓤 H (𝓖 .A) signature (tables 𝓤 H 𝓜 𝓡 env .C key) (closing 𝓤 H (𝓖 .A) ended (limited 𝓤 most))
 unfolding tablesOf
-tell-met 𝓤 H 𝓜 𝓖 𝓡 big most n room enough env key closed calls-copy calls-answer =
+query-met 𝓤 H 𝓜 𝓖 𝓡 big most n room enough env key closed calls-copy calls-query =
     entered 𝓤 H (tripleOf 𝓤 H (𝓖 .A) signature (closing 𝓤 H (𝓖 .A) ended (limited 𝓤 most)))
     (tables 𝓤 H 𝓜 𝓡 env .C) (tables 𝓤 H 𝓜 𝓡 env .Λ) key (function big n) closed
-    (tell-meets 𝓤 H (𝓖 .A) (givenOf 𝓤 H 𝓜 𝓖) (𝓜 .mem) (𝓡 .run) big most n room enough (tablesOf 𝓤 H 𝓜 (tables 𝓤 H 𝓜 𝓡 env))
+    (query-meets 𝓤 H (𝓖 .A) (givenOf 𝓤 H 𝓜 𝓖) (𝓜 .mem) (𝓡 .run) big most n room enough (tablesOf 𝓤 H 𝓜 (tables 𝓤 H 𝓜 𝓡 env))
     (cited 𝓤 H (CopyRows 𝓤 H (𝓖 .A) (𝓜 .mem) (𝓡 .run)) 𝓜 𝓡 env #prefixes·copy-rows copy-rows-def.routine calls-copy (copy-rows-thm.met 𝓤 H 𝓜 𝓖 𝓡))
-    (cited 𝓤 H (Answer 𝓤 H (𝓖 .A) (𝓜 .mem) (𝓡 .run)) 𝓜 𝓡 env #prefixes·answer answer-def.routine calls-answer (answer-thm.met 𝓤 H 𝓜 𝓖 𝓡)))
+    (cited 𝓤 H (QueryRows 𝓤 H (𝓖 .A) (𝓜 .mem) (𝓡 .run)) 𝓜 𝓡 env #prefixes·query-rows query-rows-def.routine calls-query (query-rows-thm.met 𝓤 H 𝓜 𝓖 𝓡)))

@@ -5,6 +5,6 @@ mod Rows
 pub mod Listed
 mod Limited
 pub mod Walk
-mod AskTell
+mod QueryCall
 -- The walk of the three functions that have the row.
 mod Lender

@@ -1,4 +1,4 @@
--- The contract that `tell_64`, `tell_512` and `tell_4096` have, by the most entries of a list; and what each still has of its parameters at exit.
+-- The contract that `query_64`, `query_512` and `query_4096` have, by the most entries of a list; and what each still has of its parameters at exit.
 use Prim.Native.Nat.{ℕ, _≤_}
 use mathlib.Core.List.{[], _∷_}
 use lib.ListN.{length}
@@ -15,8 +15,8 @@ use denote.Triple.Spec.{tripleOf}
 use denote.Triple.Walked.{Stays, stay-none, stay-none-slice}
 use denote.Exit.{yes}
 use Rattle.route.proofs.Prefix as T
-use Rattle.prefixes.specs.Told.{TellsOf}
-use Rattle.prefixes.proofs.Told as R
+use Rattle.prefixes.specs.Queries.{IsReplyOf}
+use Rattle.prefixes.proofs.Reply as R
 
 abbrev pub signature : Signature
 signature = record {
@@ -36,7 +36,7 @@ abbrev pub limited : {M : Type 1} (𝓤 : URA M) → ℕ → Clauses 𝓤 ended
 limited 𝓤 most κs a = record {
   ghost = Unit {0};
   requires = λ _. fact 𝓤 (length (now (a .0)) ≤ most);
-  ensures = λ _ r _. fact 𝓤 (TellsOf 32 (a .1 .0) (now (a .0)) (a .1 .1 .0) r);
+  ensures = λ _ r _. fact 𝓤 (IsReplyOf 32 (a .1 .0) (now (a .0)) (a .1 .1 .0) r);
 }
 
 abbrev pub Limited : {M : Type 1} (𝓤 : URA M) (H : Heap 𝓤) (A : Atoms 𝓤) → ℕ → Contract 𝓤

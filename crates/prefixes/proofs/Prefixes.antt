@@ -12,8 +12,8 @@ use Rattle.route.specs.Shown.{routeOf, counted, shown}
 use Rattle.route.specs.declared.Prefix.{Prefix}
 use borrow.Author.Tests.{lt-leb, eq-eqb}
 use Rattle.prefixes.specs.Prefixes.{addressRow, lengthRow, hopRow}
-use Rattle.prefixes.specs.Told.{TellsOf}
-use Rattle.prefixes.specs.declared.Told.{Told}
+use Rattle.prefixes.specs.Queries.{IsReplyOf}
+use Rattle.prefixes.specs.declared.Reply.{Reply}
 
 pub equal-rows : (ps : List Prefix) → EqualRows (addressRow ps) (lengthRow ps) (hopRow ps)
 equal-rows ps = record { second = simp length-map refl; third = simp length-map refl }
@@ -28,9 +28,9 @@ many-fault W ps many =
     let rows = equal-rows ps in
     rw (eq-eqb _ _ (rows .second), eq-eqb _ _ (rows .third), lt-leb (length (addressRow ps)) maxRoutes (rw length-map many)) refl
 
-pub many-told : {W q : ℕ} {looking : Bool} (ps : List Prefix) (told : Told) → maxRoutes < length ps
-    → (counted (told .count) ≡ refused sizeRefusal 0) × (shown (told .hop) ≡ refused sizeRefusal 0) → TellsOf W looking ps q told
-many-told {W} {q} ps told many says = record {
+pub many-reply : {W q : ℕ} {looking : Bool} (ps : List Prefix) (reply : Reply) → maxRoutes < length ps
+    → (counted (reply .count) ≡ refused sizeRefusal 0) × (shown (reply .hop) ≡ refused sizeRefusal 0) → IsReplyOf W looking ps q reply
+many-reply {W} {q} ps reply many says = record {
   tested = λ _. says .0 ∙ sym (ap (λ (v : Verdict). unlessFault v (value (length (addressRow ps)))) (many-fault W ps many));
   found = λ _. says .1 ∙ sym (ap (λ (v : Verdict). unlessFault v (value (answer W (routes (addressRow ps) (lengthRow ps) (hopRow ps)) q))) (many-fault W ps many));
 }

@@ -13,7 +13,7 @@ use Rattle.route.specs.Rows.{overwritten}
 use Rattle.route.specs.declared.Prefix.{Prefix}
 use Rattle.route.proofs.Parts.{sets-append}
 use Rattle.prefixes.specs.Prefixes.{addressRow, lengthRow, hopRow}
-use Rattle.prefixes.specs.Told.{threeRows}
+use Rattle.prefixes.specs.Queries.{threeRows}
 
 -- a store in front of a run
 set-sets : (l : List ℕ) (k : ℕ) (vs : List ℕ) (j a : ℕ) → j < k → set (sets l k vs) j a ≡ sets (set l j a) k vs

@@ -1,3 +1,3 @@
--- The list as a slice of prefixes; what its functions tell each other.
+-- The list as a slice of prefixes; the rows and replies of its functions.
 pub mod Prefixes
-pub mod Told
+pub mod Queries

@@ -1,4 +1,4 @@
--- `check` meets its contract: a walk of its MIR. A short list goes to `tell_64`, any other to `tell_long`, and the answer of either to `count_of`.
+-- `check` meets its contract: a walk of its MIR. A short list goes to `query_64`, any other to `query_long`, and the answer of either to `count_of`.
 use mathlib.Core.Path.{_≡_, refl, ap, _∙_}
 use Prim.Native.Nat.{ℕ, _≤_}
 use mathlib.Core.Bool.{false}
@@ -42,20 +42,20 @@ use Rattle.route.proofs.Counted.Laws as N′
 use Rattle.route.proofs.Prefix as T
 use Rattle.route.proofs.Call.{calls-fact}
 use Rattle.prefixes.specs.Prefixes.{prefixesCheck}
-use Rattle.prefixes.specs.declared.Told.{Told}
+use Rattle.prefixes.specs.declared.Reply.{Reply}
 use Rattle.prefixes.proofs.Walk.{Free, Full}
 use Rattle.prefixes.proofs.Listed.{listTy, listed, Owned, Live}
-use Rattle.prefixes.proofs.AskTell.{asks}
+use Rattle.prefixes.proofs.QueryCall.{asks}
 use Rattle.prefixes.proofs.Limited.{limited, Limited}
-use Rattle.prefixes.proofs.Told as B
-use Rattle.prefixes.proofs.Told.Laws as B′
-use Rattle.prefixes.proofs.tell_64.Symbol as tell-64-def
-use Rattle.prefixes.proofs.tell_64.Symbol.{name as #prefixes·tell-64}
-use Rattle.prefixes.proofs.tell_64.Met as tell-64-thm
-use Rattle.prefixes.proofs.tell_long as tell-long
-use Rattle.prefixes.proofs.tell_long.Symbol as tell-long-def
-use Rattle.prefixes.proofs.tell_long.Symbol.{name as #prefixes·tell-long}
-use Rattle.prefixes.proofs.tell_long.Met as tell-long-thm
+use Rattle.prefixes.proofs.Reply as B
+use Rattle.prefixes.proofs.Reply.Laws as B′
+use Rattle.prefixes.proofs.query_64.Symbol as query-64-def
+use Rattle.prefixes.proofs.query_64.Symbol.{name as #prefixes·query-64}
+use Rattle.prefixes.proofs.query_64.Met as query-64-thm
+use Rattle.prefixes.proofs.query_long as query-long
+use Rattle.prefixes.proofs.query_long.Symbol as query-long-def
+use Rattle.prefixes.proofs.query_long.Symbol.{name as #prefixes·query-long}
+use Rattle.prefixes.proofs.query_long.Met as query-long-thm
 use Rattle.prefixes.proofs.count_of as count-of
 use Rattle.prefixes.proofs.count_of.Symbol as count-of-def
 use Rattle.prefixes.proofs.count_of.Symbol.{name as #prefixes·count-of}
@@ -71,14 +71,14 @@ stayed = (stay-none-slice (0 ∷ []) tt (plain (λ _. T.the-row)) yes, tt)
 
 module _ {M : Type 1} (𝓤 : URA M) (H : Heap 𝓤) (A : Atoms 𝓤) (mem : Memory → SProp 𝓤) (run : Routine → Fun 𝓤) where
   -- the contracts that the proof cites; of the callees it is known that they meet them
-  abbrev TellLong : Contract 𝓤
-  TellLong = tripleOf 𝓤 H A tell-long.signature (tell-long.spec 𝓤 H A mem run)
+  abbrev QueryLong : Contract 𝓤
+  QueryLong = tripleOf 𝓤 H A query-long.signature (query-long.spec 𝓤 H A mem run)
 
   abbrev CountOf : Contract 𝓤
   CountOf = tripleOf 𝓤 H A count-of.signature (count-of.spec 𝓤 H A mem run)
 
   abbrev Known : Calls 𝓤 H → Type 1
-  Known C = Triple 𝓤 (C #prefixes·tell-64) (Limited 𝓤 H A 64) × (Triple 𝓤 (C #prefixes·tell-long) TellLong × Triple 𝓤 (C #prefixes·count-of) CountOf)
+  Known C = Triple 𝓤 (C #prefixes·query-64) (Limited 𝓤 H A 64) × (Triple 𝓤 (C #prefixes·query-long) QueryLong × Triple 𝓤 (C #prefixes·count-of) CountOf)
 
 module _ {M : Type 1} (𝓤 : URA M) (H : Heap 𝓤) (A : Atoms 𝓤) (W : Given 𝓤 H A) (mem : Memory → SProp 𝓤) (run : Routine → Fun 𝓤) (κ : Lft) (q : Share) (r : RefT (List Prefix)) where
   abbrev n : ℕ
@@ -106,11 +106,11 @@ module _ {M : Type 1} (𝓤 : URA M) (H : Heap 𝓤) (A : Atoms 𝓤) (W : Given
       move ! (1 ∷ []) $ frame ! $ nothing ! $ move ! (2 ∷ 0 ∷ []) $ fjoin ! $ frame ! $ done !
 
   -- what `count_of` is passed, and asks
-  abbrev to : Told → Val → CountOf 𝓤 H A mem run .Ghost
-  to told u = ((tt, tt, tt, (told, tt), (u ∷ [], tt)), tt)
+  abbrev to : Reply → Val → CountOf 𝓤 H A mem run .Ghost
+  to reply u = ((tt, tt, tt, (reply, tt), (u ∷ [], tt)), tt)
 
-  asked : (told : Told) (u : Val) → ent 𝓤 (⋆ 𝓤 H A (‵ (B.the-row .own told (u ∷ [])) ∷ [])) (CountOf 𝓤 H A mem run .pre (to told u))
-  asked told u = qed W (‵ (B.the-row .own told (u ∷ [])) ∷ []) ∵ nothing ! $ move ! (1 ∷ 0 ∷ []) $ fjoin ! $ nothing ! $ join ! $ nothing ! $ move ! (1 ∷ 0 ∷ []) $ done !
+  asked : (reply : Reply) (u : Val) → ent 𝓤 (⋆ 𝓤 H A (‵ (B.the-row .own reply (u ∷ [])) ∷ [])) (CountOf 𝓤 H A mem run .pre (to reply u))
+  asked reply u = qed W (‵ (B.the-row .own reply (u ∷ [])) ∷ []) ∵ nothing ! $ move ! (1 ∷ 0 ∷ []) $ fjoin ! $ nothing ! $ join ! $ nothing ! $ move ! (1 ∷ 0 ∷ []) $ done !
 
   module _ (C : Calls 𝓤 H) (Λ : Loops 𝓤 H) (fm : FmC 𝓤 H (W .laws) C) (known : Known 𝓤 H A mem run C) (g : Room T.the-row n) where
     module _ (l₀ l₁ l₂ l₃ l₄ l₅ : ℕ) where
@@ -137,15 +137,15 @@ module _ {M : Type 1} (𝓤 : URA M) (H : Heap 𝓤) (A : Atoms 𝓤) (W : Given
           assigns ! (of-opd ! (load ! (from ! (fld ! refl (stop !))) (look-in ! 10 (sub ! 1 refl (whole !))))) (from ! (stop !)) (init ! 8 refl (tt, record { fits = g .0 })) $
           assigns ! (bin ! (load ! (from ! (stop !)) (look ! 8 refl)) (lit ! tt) tt) (from ! (stop !)) (init ! 6 refl (tt, tt)) $
           first ! $ branches ! (load ! (from ! (stop !)) (look ! 6 refl))
-          (λ h. asks 𝓤 H A W κ q r false 0 (lit< tt) (limited 𝓤 64) tt (guardI 𝓤 (n ≤ 64) (emp 𝓤) (leb→le n 64 h)) (λ told end. id⊢ 𝓤 _) ! fm (known .0)
-          (and-then ! (load ! (from ! (stop !)) (look ! 10 refl)) (and-then ! (false-lit !) (and-then ! (lit ! tt) (no-more !)))) (λ told u e is.
-          land ! (from ! (stop !)) (init ! 5 refl (LL.lawful B.the-type B′.the-laws 𝓤 H A W .typed told (u ∷ []) is .0)) $ use1 W (raw (CountOf 𝓤 H A mem run .pre (to told u))) (asked told u) $
-          calls-fact 𝓤 H A W count-of.ended (count-of.clauses 𝓤 H A mem run) (to told u) (λ c. c ≡ told .count) (λ c end. id⊢ 𝓤 _) ! fm (known .1 .1) (and-then ! (load ! (from ! (stop !)) (look ! 5 refl)) (no-more !)) (λ c u′ e′ is′.
+          (λ h. asks 𝓤 H A W κ q r false 0 (lit< tt) (limited 𝓤 64) tt (guardI 𝓤 (n ≤ 64) (emp 𝓤) (leb→le n 64 h)) (λ reply end. id⊢ 𝓤 _) ! fm (known .0)
+          (and-then ! (load ! (from ! (stop !)) (look ! 10 refl)) (and-then ! (false-lit !) (and-then ! (lit ! tt) (no-more !)))) (λ reply u e is.
+          land ! (from ! (stop !)) (init ! 5 refl (LL.lawful B.the-type B′.the-laws 𝓤 H A W .typed reply (u ∷ []) is .0)) $ use1 W (raw (CountOf 𝓤 H A mem run .pre (to reply u))) (asked reply u) $
+          calls-fact 𝓤 H A W count-of.ended (count-of.clauses 𝓤 H A mem run) (to reply u) (λ c. c ≡ reply .count) (λ c end. id⊢ 𝓤 _) ! fm (known .1 .1) (and-then ! (load ! (from ! (stop !)) (look ! 5 refl)) (no-more !)) (λ c u′ e′ is′.
           move ! (1 ∷ []) $ drop ! $ forget ! 5 refl $ leaves c u′ (ap counted e′ ∙ e .tested refl) is′ refl)))
-          (λ _. skips ! $ exec ! C Λ En body.t-4 (atRet En Post) $ asks 𝓤 H A W κ q r false 0 (lit< tt) (tell-long.clauses 𝓤 H A mem run) tt (id⊢ 𝓤 _) (λ told end. id⊢ 𝓤 _) ! fm (known .1 .0)
-          (and-then ! (load ! (from ! (stop !)) (look ! 10 refl)) (and-then ! (false-lit !) (and-then ! (lit ! tt) (no-more !)))) (λ told u e is.
-          land ! (from ! (stop !)) (init ! 3 refl (LL.lawful B.the-type B′.the-laws 𝓤 H A W .typed told (u ∷ []) is .0)) $ use1 W (raw (CountOf 𝓤 H A mem run .pre (to told u))) (asked told u) $
-          calls-fact 𝓤 H A W count-of.ended (count-of.clauses 𝓤 H A mem run) (to told u) (λ c. c ≡ told .count) (λ c end. id⊢ 𝓤 _) ! fm (known .1 .1) (and-then ! (load ! (from ! (stop !)) (look ! 3 refl)) (no-more !)) (λ c u′ e′ is′.
+          (λ _. skips ! $ exec ! C Λ En body.t-4 (atRet En Post) $ asks 𝓤 H A W κ q r false 0 (lit< tt) (query-long.clauses 𝓤 H A mem run) tt (id⊢ 𝓤 _) (λ reply end. id⊢ 𝓤 _) ! fm (known .1 .0)
+          (and-then ! (load ! (from ! (stop !)) (look ! 10 refl)) (and-then ! (false-lit !) (and-then ! (lit ! tt) (no-more !)))) (λ reply u e is.
+          land ! (from ! (stop !)) (init ! 3 refl (LL.lawful B.the-type B′.the-laws 𝓤 H A W .typed reply (u ∷ []) is .0)) $ use1 W (raw (CountOf 𝓤 H A mem run .pre (to reply u))) (asked reply u) $
+          calls-fact 𝓤 H A W count-of.ended (count-of.clauses 𝓤 H A mem run) (to reply u) (λ c. c ≡ reply .count) (λ c end. id⊢ 𝓤 _) ! fm (known .1 .1) (and-then ! (load ! (from ! (stop !)) (look ! 3 refl)) (no-more !)) (λ c u′ e′ is′.
           move ! (1 ∷ []) $ drop ! $ forget ! 3 refl $ leaves c u′ (ap counted e′ ∙ e .tested refl) is′ refl)))
 
     walk : ent 𝓤 (onEntry 𝓤 H A check.signature (κ, tt) (q, tt) (r, tt) at) (WpFn 𝓤 H C Λ code.function (v ∷ []) Post)
@@ -168,9 +168,9 @@ check-spec 𝓤 H 𝓜 𝓖 𝓡 =
     entered 𝓤 H (tripleOf 𝓤 H (𝓖 .A) check.signature (check.spec 𝓤 H (𝓖 .A) (𝓜 .mem) (𝓡 .run)))
     (tables 𝓤 H 𝓜 𝓡 code.env .C) (tables 𝓤 H 𝓜 𝓡 code.env .Λ) #prefixes·check code.function (code.unfolded 𝓤 H 𝓜 𝓡)
     (check-meets 𝓤 H (𝓖 .A) (givenOf 𝓤 H 𝓜 𝓖) (𝓜 .mem) (𝓡 .run) (tablesOf 𝓤 H 𝓜 (tables 𝓤 H 𝓜 𝓡 code.env)) (
-      cited 𝓤 H (Limited 𝓤 H (𝓖 .A) 64) 𝓜 𝓡 code.env #prefixes·tell-64 tell-64-def.routine code.calls-prefixes·tell-64 (tell-64-thm.met 𝓤 H 𝓜 𝓖 𝓡),
+      cited 𝓤 H (Limited 𝓤 H (𝓖 .A) 64) 𝓜 𝓡 code.env #prefixes·query-64 query-64-def.routine code.calls-prefixes·query-64 (query-64-thm.met 𝓤 H 𝓜 𝓖 𝓡),
       (
-        cited 𝓤 H (TellLong 𝓤 H (𝓖 .A) (𝓜 .mem) (𝓡 .run)) 𝓜 𝓡 code.env #prefixes·tell-long tell-long-def.routine code.calls-prefixes·tell-long (tell-long-thm.met 𝓤 H 𝓜 𝓖 𝓡),
+        cited 𝓤 H (QueryLong 𝓤 H (𝓖 .A) (𝓜 .mem) (𝓡 .run)) 𝓜 𝓡 code.env #prefixes·query-long query-long-def.routine code.calls-prefixes·query-long (query-long-thm.met 𝓤 H 𝓜 𝓖 𝓡),
         cited 𝓤 H (CountOf 𝓤 H (𝓖 .A) (𝓜 .mem) (𝓡 .run)) 𝓜 𝓡 code.env #prefixes·count-of count-of-def.routine code.calls-prefixes·count-of (count-of-thm.met 𝓤 H 𝓜 𝓖 𝓡),
       ),
     ))

@@ -1,4 +1,4 @@
--- The call of a function that tells of a list, as a step of a walk. All that is known of it is that it meets its contract; the contracts differ in the `requires` alone.
+-- The call of a function that queries a list, as a step of a walk. All that is known of it is that it meets its contract; the contracts differ in the `requires` alone.
 use mathlib.Core.Path.{refl}
 use mathlib.Core.Bool.{Bool}
 use Prim.Native.Nat.{ℕ, _<_, _^_}
@@ -26,11 +26,11 @@ use denote.Triple.Spec.{tripleOf}
 use Rattle.route.specs.declared.Prefix.{Prefix}
 use Rattle.route.proofs.Prefix as T
 use Rattle.route.proofs.PassOn.{passes}
-use Rattle.prefixes.specs.Told.{TellsOf}
-use Rattle.prefixes.specs.declared.Told.{Told}
+use Rattle.prefixes.specs.Queries.{IsReplyOf}
+use Rattle.prefixes.specs.declared.Reply.{Reply}
 use Rattle.prefixes.proofs.Limited.{signature, ended}
 use Rattle.prefixes.proofs.Listed.{listed, Owned, Live}
-use Rattle.prefixes.proofs.Told as R
+use Rattle.prefixes.proofs.Reply as R
 
 module _ {M : Type 1} (𝓤 : URA M) (H : Heap 𝓤) (A : Atoms 𝓤) (W : Given 𝓤 H A) (κ : Lft) (q : Share) (r : RefT (List Prefix)) (looking : Bool) (k : ℕ) (gk : k < 2 ^ 32) where
   abbrev Own : Item 𝓤
@@ -47,7 +47,7 @@ module _ {M : Type 1} (𝓤 : URA M) (H : Heap 𝓤) (A : Atoms 𝓤) (W : Given
   values = (listed 𝓤 H A W κ q r ∷ [], (vbool looking ∷ [], (vint w32 k ∷ [], tt)))
 
   module _ (c : Clauses 𝓤 ended) (g : c (κ, tt) passed .ghost) (meets : ent 𝓤 (emp 𝓤) (c (κ, tt) passed .requires g))
-      (states : (told : Told) (end : AtExit ended (κ, tt)) → ent 𝓤 (c (κ, tt) passed .ensures g told end) (fact 𝓤 (TellsOf 32 looking (r .now) k told))) where
+      (states : (reply : Reply) (end : AtExit ended (κ, tt)) → ent 𝓤 (c (κ, tt) passed .ensures g reply end) (fact 𝓤 (IsReplyOf 32 looking (r .now) k reply))) where
     abbrev pub Asked : Contract 𝓤
     Asked = tripleOf 𝓤 H A signature (closing 𝓤 H A ended c)
 
@@ -62,6 +62,6 @@ module _ {M : Type 1} (𝓤 : URA M) (H : Heap 𝓤) (A : Atoms 𝓤) (W : Given
 
     pub asks : {K : Type 0} {Γ : List (Item 𝓤)} {E : Env 𝓤 H} {C : Calls 𝓤 H} {Λ : Loops 𝓤 H} {p : Post 𝓤 H} {f : Name} {xs : List Opd} {l : Place} {b : Body}
         → K → FmC 𝓤 H (W .laws) C → Triple 𝓤 (C f) Asked → Opds K W (raw (Asked .pre to) ∷ Own ∷ Γ) E xs (Asked .args to)
-        → ((told : Told) (u : Val) → TellsOf 32 looking (r .now) k told → Is R.the-row told (u ∷ []) → Seq K W (‵ (R.the-row .own told (u ∷ [])) ∷ Token ∷ Own ∷ Γ) (lands C Λ E l u b p))
+        → ((reply : Reply) (u : Val) → IsReplyOf 32 looking (r .now) k reply → Is R.the-row reply (u ∷ []) → Seq K W (‵ (R.the-row .own reply (u ∷ [])) ∷ Token ∷ Own ∷ Γ) (lands C Λ E l u b p))
         → Seq K W (Own ∷ Token ∷ Γ) (runs C Λ E (seq (call f xs l) b) p)
-    asks = passes 𝓤 H A W (named 0) κ q T.the-row r ended c to (λ told. TellsOf 32 looking (r .now) k told) states asked (id⊢ 𝓤 _)
+    asks = passes 𝓤 H A W (named 0) κ q T.the-row r ended c to (λ reply. IsReplyOf 32 looking (r .now) k reply) states asked (id⊢ 𝓤 _)

@@ -7,9 +7,9 @@ use native.Mathlib.Omega.{arith}
 use Prim.Native.Nat.{ℕ, _*_, _-_}
 use lib.Dec.{T}
 use lib.ListN.{take, drop, length-take}
-use Rattle.prefixes.specs.Told.{second, third}
-use Rattle.prefixes.proofs.answer.Statement.{statement}
-use Rattle.prefixes.proofs.answer.Tie as tie
+use Rattle.prefixes.specs.Queries.{second, third}
+use Rattle.prefixes.proofs.query_rows.Statement.{statement}
+use Rattle.prefixes.proofs.query_rows.Tie as tie
 
 -- the second and the third part are rows of n entries
 part-row : (a k n : ℕ) (xs : List ℕ) → k ≡ n → midOf a k xs ≡ take n (drop a xs)
@@ -40,8 +40,8 @@ returns-2 c =
       found = λ e. absurd (subst T (sym e ∙ c .before .if1 .left) tt);
     }
 
-pub answer-spec : {M : Type 1} → statement M
-answer-spec =
+pub query-rows-spec : {M : Type 1} → statement M
+query-rows-spec =
     tie.close
     (tie.spec
     slice-aggregate-addresses (λ c. search needs) (λ c. search needs) (λ c. search needs) (λ c. search needs)

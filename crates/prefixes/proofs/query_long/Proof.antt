@@ -1,4 +1,4 @@
--- `tell_long` meets its contract: a walk of its MIR. Each of the two tests of the list's length leads to a call with the arguments as they are; the two callees' contracts differ in the limit alone.
+-- `query_long` meets its contract: a walk of its MIR. Each of the two tests of the list's length leads to a call with the arguments as they are; the two callees' contracts differ in the limit alone.
 use mathlib.Core.Path.{_≡_, refl}
 use mathlib.Core.Bool.{Bool}
 use Prim.Native.Nat.{ℕ, _≤_, _<_, _^_}
@@ -40,30 +40,30 @@ use Rattle.route.specs.Shown.{counted, shown}
 use Rattle.route.specs.declared.Prefix.{Prefix}
 use Rattle.route.proofs.Prefix as T
 use Rattle.route.proofs.Call.{calls-fact}
-use Rattle.prefixes.specs.Told.{TellsOf}
-use Rattle.prefixes.specs.declared.Told.{Told}
-use Rattle.prefixes.proofs.Prefixes.{many-told}
+use Rattle.prefixes.specs.Queries.{IsReplyOf}
+use Rattle.prefixes.specs.declared.Reply.{Reply}
+use Rattle.prefixes.proofs.Prefixes.{many-reply}
 use Rattle.prefixes.proofs.Listed.{listTy, listed, Owned, Live}
-use Rattle.prefixes.proofs.AskTell.{asks}
+use Rattle.prefixes.proofs.QueryCall.{asks}
 use Rattle.prefixes.proofs.Limited.{stayed, limited, Limited}
 use Rattle.prefixes.proofs.Walk.{Free, Full, big-lit}
-use Rattle.prefixes.proofs.Told as B
-use Rattle.prefixes.proofs.Told.Laws as B′
-use Rattle.prefixes.proofs.tell_512.Symbol as tell-512-def
-use Rattle.prefixes.proofs.tell_512.Symbol.{name as #prefixes·tell-512}
-use Rattle.prefixes.proofs.tell_512.Met as tell-512-thm
-use Rattle.prefixes.proofs.tell_4096.Symbol as tell-4096-def
-use Rattle.prefixes.proofs.tell_4096.Symbol.{name as #prefixes·tell-4096}
-use Rattle.prefixes.proofs.tell_4096.Met as tell-4096-thm
+use Rattle.prefixes.proofs.Reply as B
+use Rattle.prefixes.proofs.Reply.Laws as B′
+use Rattle.prefixes.proofs.query_512.Symbol as query-512-def
+use Rattle.prefixes.proofs.query_512.Symbol.{name as #prefixes·query-512}
+use Rattle.prefixes.proofs.query_512.Met as query-512-thm
+use Rattle.prefixes.proofs.query_4096.Symbol as query-4096-def
+use Rattle.prefixes.proofs.query_4096.Symbol.{name as #prefixes·query-4096}
+use Rattle.prefixes.proofs.query_4096.Met as query-4096-thm
 use Rattle.prefixes.proofs.too_many as too-many
 use Rattle.prefixes.proofs.too_many.Symbol as too-many-def
 use Rattle.prefixes.proofs.too_many.Symbol.{name as #prefixes·too-many}
 use Rattle.prefixes.proofs.too_many.Met as too-many-thm
-use Rattle.prefixes.proofs.tell_long.Key.{name as #prefixes·tell-long}
-use Rattle.prefixes.proofs.tell_long as tell
-use Rattle.prefixes.proofs.tell_long.Statement as stated
-use Rattle.prefixes.proofs.tell_long.Code as code
-use Rattle.prefixes.proofs.tell_long.Code.Mir as body
+use Rattle.prefixes.proofs.query_long.Key.{name as #prefixes·query-long}
+use Rattle.prefixes.proofs.query_long as query
+use Rattle.prefixes.proofs.query_long.Statement as stated
+use Rattle.prefixes.proofs.query_long.Code as code
+use Rattle.prefixes.proofs.query_long.Code.Mir as body
 
 module _ {M : Type 1} (𝓤 : URA M) (H : Heap 𝓤) (A : Atoms 𝓤) (mem : Memory → SProp 𝓤) (run : Routine → Fun 𝓤) where
   -- of the callees it is known that they meet their contracts
@@ -71,9 +71,9 @@ module _ {M : Type 1} (𝓤 : URA M) (H : Heap 𝓤) (A : Atoms 𝓤) (mem : Mem
   TooMany = tripleOf 𝓤 H A too-many.signature (too-many.spec 𝓤 H A mem run)
 
   abbrev Known : Calls 𝓤 H → Type 1
-  Known C = Triple 𝓤 (C #prefixes·tell-512) (Limited 𝓤 H A 512) × (Triple 𝓤 (C #prefixes·tell-4096) (Limited 𝓤 H A 4096) × Triple 𝓤 (C #prefixes·too-many) TooMany)
+  Known C = Triple 𝓤 (C #prefixes·query-512) (Limited 𝓤 H A 512) × (Triple 𝓤 (C #prefixes·query-4096) (Limited 𝓤 H A 4096) × Triple 𝓤 (C #prefixes·too-many) TooMany)
 
-module _ {M : Type 1} (𝓤 : URA M) (H : Heap 𝓤) (A : Atoms 𝓤) (W : Given 𝓤 H A) (mem : Memory → SProp 𝓤) (run : Routine → Fun 𝓤) (κs : Lfts 1) (qs : Shares 1) (a : Args tell.signature κs) where
+module _ {M : Type 1} (𝓤 : URA M) (H : Heap 𝓤) (A : Atoms 𝓤) (W : Given 𝓤 H A) (mem : Memory → SProp 𝓤) (run : Routine → Fun 𝓤) (κs : Lfts 1) (qs : Shares 1) (a : Args query.signature κs) where
   abbrev r : RefT (List Prefix)
   r = a .0
 
@@ -89,11 +89,11 @@ module _ {M : Type 1} (𝓤 : URA M) (H : Heap 𝓤) (A : Atoms 𝓤) (W : Given
   abbrev s : Val
   s = listed 𝓤 H A W (κs .0) (qs .0) r
 
-  abbrev at : Vals tell.signature κs
+  abbrev at : Vals query.signature κs
   at = (s ∷ [], (vbool looking ∷ [], (vint w32 k ∷ [], tt)))
 
   abbrev Post : Val → SProp 𝓤
-  Post = walkOf 𝓤 H A tell.ended stayed (tell.clauses 𝓤 H A mem run) .post ((κs, qs, tt, a, at), tt)
+  Post = walkOf 𝓤 H A query.ended stayed (query.clauses 𝓤 H A mem run) .post ((κs, qs, tt, a, at), tt)
 
   abbrev Own : Item 𝓤
   Own = Owned 𝓤 H A W (κs .0) (qs .0) r
@@ -113,10 +113,10 @@ module _ {M : Type 1} (𝓤 : URA M) (H : Heap 𝓤) (A : Atoms 𝓤) (W : Given
   asked = qed W [] ∵ nothing ! $ nothing ! $ join ! $ nothing ! $ move ! (1 ∷ 0 ∷ []) $ done !
 
   module _ (gk : k < 2 ^ 32) where
-    exits : (told : Told) (u : Val) → TellsOf 32 looking (r .now) k told → ent 𝓤 (⋆ 𝓤 H A (‵ (B.the-row .own told (u ∷ [])) ∷ Token ∷ Own ∷ [])) (Post u)
-    exits told u e =
-        qed W (‵ (B.the-row .own told (u ∷ [])) ∷ Token ∷ Own ∷ []) ∵
-        suffices ! _ (ends-at 𝓤 H A tell.ended stayed (tell.clauses 𝓤 H A mem run) W ((κs, qs, tt, a, at), tt) u told (tt, (tt, (tt, tt))) (tt, (tt, (tt, tt)))) $ says ! e $
+    exits : (reply : Reply) (u : Val) → IsReplyOf 32 looking (r .now) k reply → ent 𝓤 (⋆ 𝓤 H A (‵ (B.the-row .own reply (u ∷ [])) ∷ Token ∷ Own ∷ [])) (Post u)
+    exits reply u e =
+        qed W (‵ (B.the-row .own reply (u ∷ [])) ∷ Token ∷ Own ∷ []) ∵
+        suffices ! _ (ends-at 𝓤 H A query.ended stayed (query.clauses 𝓤 H A mem run) W ((κs, qs, tt, a, at), tt) u reply (tt, (tt, (tt, tt))) (tt, (tt, (tt, tt)))) $ says ! e $
         move ! (1 ∷ []) $ frame ! $ nothing ! $ owned ! u32 (Is u32) (uint-makes 𝓤 H A W w32) k _ (refl, gk) $ fjoin ! $ owned ! bool (Is bool) (bool-makes 𝓤 H A W) looking _ refl $ fjoin ! $
         move ! (2 ∷ 0 ∷ []) $ fjoin ! $ frame ! $ done !
 
@@ -128,21 +128,21 @@ module _ {M : Type 1} (𝓤 : URA M) (H : Heap 𝓤) (A : Atoms 𝓤) (W : Given
       abbrev Tested : Bool → List (Item 𝓤)
       Tested y = Full tyBool l₅ (vbool y) (Full (tyInt w64) l₄ (vint w64 n) (Full (tyInt w32) l₃ (vint w32 k) (Full tyBool l₂ (vbool looking) (Full listTy l₁ s (Free B′.mir l₀ [])))))
 
-      -- what a callee told is returned
-      leaves : (y : Bool) (told : Told) (u : Val) → TellsOf 32 looking (r .now) k told → Is B.the-row told (u ∷ []) → {p : Posts 𝓤 H} → post 𝓤 H p returnsᴼ ≡ atReturn 𝓤 H En Post returnsᴼ
-          → Sq W (‵ (B.the-row .own told (u ∷ [])) ∷ Token ∷ Own ∷ Tested y) (lands C Λ En (place 0 []) u return p)
-      leaves y told u e is out =
-          land ! (from ! (stop !)) (init ! 13 refl (LL.lawful B.the-type B′.the-laws 𝓤 H A W .typed told (u ∷ []) is .0)) $
+      -- what a callee reply is returned
+      leaves : (y : Bool) (reply : Reply) (u : Val) → IsReplyOf 32 looking (r .now) k reply → Is B.the-row reply (u ∷ []) → {p : Posts 𝓤 H} → post 𝓤 H p returnsᴼ ≡ atReturn 𝓤 H En Post returnsᴼ
+          → Sq W (‵ (B.the-row .own reply (u ∷ [])) ∷ Token ∷ Own ∷ Tested y) (lands C Λ En (place 0 []) u return p)
+      leaves y reply u e is out =
+          land ! (from ! (stop !)) (init ! 13 refl (LL.lawful B.the-type B′.the-laws 𝓤 H A W .typed reply (u ∷ []) is .0)) $
           returns-within ! Post out (look ! 13 refl) $ forget ! 3 refl $ forget ! 5 refl $ forget ! 7 refl $ forget ! 9 refl $ forget ! 11 refl $ forget ! 13 refl $
           move ! (13 ∷ 14 ∷ []) $ free1 ! $ move ! (11 ∷ 12 ∷ []) $ free1 ! $ move ! (9 ∷ 10 ∷ []) $ free1 ! $ move ! (7 ∷ 8 ∷ []) $ free1 ! $ move ! (5 ∷ 6 ∷ []) $ free1 ! $ move ! (3 ∷ 4 ∷ []) $ free1 ! $ free0 ! $
-          by ! (exits told u e)
+          by ! (exits reply u e)
 
       -- the call of a callee, and the return
-      tells : (limit : ℕ) → n ≤ limit → (y : Bool) {f : Name} → Triple 𝓤 (C f) (Limited 𝓤 H A limit) → {p : Posts 𝓤 H} → post 𝓤 H p returnsᴼ ≡ atReturn 𝓤 H En Post returnsᴼ
+      replies : (limit : ℕ) → n ≤ limit → (y : Bool) {f : Name} → Triple 𝓤 (C f) (Limited 𝓤 H A limit) → {p : Posts 𝓤 H} → post 𝓤 H p returnsᴼ ≡ atReturn 𝓤 H En Post returnsᴼ
           → Sq W (Own ∷ Token ∷ Tested y) (runs C Λ En (seq (call f (copy (place 1 []) ∷ copy (place 2 []) ∷ copy (place 3 []) ∷ []) (place 0 [])) return) p)
-      tells limit few y known out =
-          asks 𝓤 H A W (κs .0) (qs .0) r looking k gk (limited 𝓤 limit) tt (guardI 𝓤 (n ≤ limit) (emp 𝓤) few) (λ told end. id⊢ 𝓤 _) ! fm known
-          (and-then ! (load ! (from ! (stop !)) (look ! 10 refl)) (and-then ! (load ! (from ! (stop !)) (look ! 8 refl)) (and-then ! (load ! (from ! (stop !)) (look ! 6 refl)) (no-more !)))) (λ told u e is. leaves y told u e is out)
+      replies limit few y known out =
+          asks 𝓤 H A W (κs .0) (qs .0) r looking k gk (limited 𝓤 limit) tt (guardI 𝓤 (n ≤ limit) (emp 𝓤) few) (λ reply end. id⊢ 𝓤 _) ! fm known
+          (and-then ! (load ! (from ! (stop !)) (look ! 10 refl)) (and-then ! (load ! (from ! (stop !)) (look ! 8 refl)) (and-then ! (load ! (from ! (stop !)) (look ! 6 refl)) (no-more !)))) (λ reply u e is. leaves y reply u e is out)
 
       -- the body, from the locals as they are when the parameters are stored
       begins : (known : Known 𝓤 H A mem run C) → Sq W (Free tyBool l₅ (Free (tyInt w64) l₄ (Full (tyInt w32) l₃ (vint w32 k) (Full tyBool l₂ (vbool looking) (Full listTy l₁ s (Free B′.mir l₀ Entry))))))
@@ -151,16 +151,16 @@ module _ {M : Type 1} (𝓤 : URA M) (H : Heap 𝓤) (A : Atoms 𝓤) (W : Given
           move ! (13 ∷ []) $ fsplit ! $ move ! (1 ∷ []) $ drop ! $ move ! (0 ∷ 13 ∷ []) $
           assigns ! (of-opd ! (load ! (from ! (fld ! refl (stop !))) (look-in ! 10 (sub ! 1 refl (whole !))))) (from ! (stop !)) (init ! 4 refl (tt, record { fits = g .0 })) $
           assigns ! (bin ! (load ! (from ! (stop !)) (look ! 4 refl)) (lit ! tt) tt) (from ! (stop !)) (init ! 2 refl (tt, tt)) $
-          first ! $ branches ! (load ! (from ! (stop !)) (look ! 2 refl)) (λ h. tells 512 (leb→le n 512 h) (leb n 512) (known .0) refl) (λ _. skips ! $ exec ! C Λ En body.t-4 (atRet En Post) $
+          first ! $ branches ! (load ! (from ! (stop !)) (look ! 2 refl)) (λ h. replies 512 (leb→le n 512 h) (leb n 512) (known .0) refl) (λ _. skips ! $ exec ! C Λ En body.t-4 (atRet En Post) $
           assigns ! (of-opd ! (load ! (from ! (fld ! refl (stop !))) (look-in ! 10 (sub ! 1 refl (whole !))))) (from ! (stop !)) (store ! 4 refl (tt, record { fits = g .0 })) $
           assigns ! (bin ! (load ! (from ! (stop !)) (look ! 4 refl)) (big-lit ! (record { fits = lit< tt })) tt) (from ! (stop !)) (store ! 2 refl (tt, tt)) $
-          first ! $ branches ! (load ! (from ! (stop !)) (look ! 2 refl)) (λ h. tells 4096 (leb→le n 4096 h) (leb n 4096) (known .1 .0) refl) (λ many. skips ! $ exec ! C Λ En body.t-7 (atRet En Post) $
+          first ! $ branches ! (load ! (from ! (stop !)) (look ! 2 refl)) (λ h. replies 4096 (leb→le n 4096 h) (leb n 4096) (known .1 .0) refl) (λ many. skips ! $ exec ! C Λ En body.t-7 (atRet En Post) $
           -- more entries than a list may have
           use0 W (raw (TooMany 𝓤 H A mem run .pre nothing-passed)) asked $
-          calls-fact 𝓤 H A W too-many.ended (too-many.clauses 𝓤 H A mem run) nothing-passed (λ told. (counted (told .count) ≡ refused sizeRefusal 0) × (shown (told .hop) ≡ refused sizeRefusal 0)) (λ told end. id⊢ 𝓤 _) ! fm (known .1 .1) (no-more !)
-          (λ told u e is. move ! (1 ∷ []) $ drop ! $ move ! (0 ∷ 2 ∷ []) $ leaves (leb n 4096) told u (many-told (r .now) told (nleb→lt n 4096 many) e) is refl)))
+          calls-fact 𝓤 H A W too-many.ended (too-many.clauses 𝓤 H A mem run) nothing-passed (λ reply. (counted (reply .count) ≡ refused sizeRefusal 0) × (shown (reply .hop) ≡ refused sizeRefusal 0)) (λ reply end. id⊢ 𝓤 _) ! fm (known .1 .1) (no-more !)
+          (λ reply u e is. move ! (1 ∷ []) $ drop ! $ move ! (0 ∷ 2 ∷ []) $ leaves (leb n 4096) reply u (many-reply (r .now) reply (nleb→lt n 4096 many) e) is refl)))
 
-  walk : (C : Calls 𝓤 H) (Λ : Loops 𝓤 H) → FmC 𝓤 H (W .laws) C → Room T.the-row n → k < 2 ^ 32 → Known 𝓤 H A mem run C → ent 𝓤 (onEntry 𝓤 H A tell.signature κs qs a at) (WpFn 𝓤 H C Λ code.function (s ∷ vbool looking ∷ vint w32 k ∷ []) Post)
+  walk : (C : Calls 𝓤 H) (Λ : Loops 𝓤 H) → FmC 𝓤 H (W .laws) C → Room T.the-row n → k < 2 ^ 32 → Known 𝓤 H A mem run C → ent 𝓤 (onEntry 𝓤 H A query.signature κs qs a at) (WpFn 𝓤 H C Λ code.function (s ∷ vbool looking ∷ vint w32 k ∷ []) Post)
   walk C Λ fm g gk known =
       qed W Entry ∵ enter ! C Λ code.function (s ∷ vbool looking ∷ vint w32 k ∷ []) _ $
       alloc1 ! (λ l₀. alloc1 ! (λ l₁. alloc1 ! (λ l₂. alloc1 ! (λ l₃. alloc1 ! (λ l₄. alloc1 ! (λ l₅. alloc0 ! $ params1 ! $
@@ -168,23 +168,23 @@ module _ {M : Type 1} (𝓤 : URA M) (H : Heap 𝓤) (A : Atoms 𝓤) (W : Given
       begins gk C Λ fm g l₀ l₁ l₂ l₃ l₄ l₅ known))))))
 
 module _ {M : Type 1} (𝓤 : URA M) (H : Heap 𝓤) (A : Atoms 𝓤) (W : Given 𝓤 H A) (mem : Memory → SProp 𝓤) (run : Routine → Fun 𝓤) (𝓣 : Tables 𝓤 H) (known : Known 𝓤 H A mem run (𝓣 .C)) where
-  tell-walks : Walks 𝓤 H A tell.ended stayed (WpFn 𝓤 H (𝓣 .C) (𝓣 .Λ) code.function) (tell.clauses 𝓤 H A mem run)
-  tell-walks = walked 𝓤 H A tell.ended stayed (tell.clauses 𝓤 H A mem run) (WpFn 𝓤 H (𝓣 .C) (𝓣 .Λ) code.function) (λ κs. (slice-vals, (bool-vals, (uint-vals w32, tt)))) (λ κs. (shr-slice-tells (named 0) (κs .0) T.the-row, (bool-tells, (uint-tells w32, tt))))
+  query-walks : Walks 𝓤 H A query.ended stayed (WpFn 𝓤 H (𝓣 .C) (𝓣 .Λ) code.function) (query.clauses 𝓤 H A mem run)
+  query-walks = walked 𝓤 H A query.ended stayed (query.clauses 𝓤 H A mem run) (WpFn 𝓤 H (𝓣 .C) (𝓣 .Λ) code.function) (λ κs. (slice-vals, (bool-vals, (uint-vals w32, tt)))) (λ κs. (shr-slice-tells (named 0) (κs .0) T.the-row, (bool-tells, (uint-tells w32, tt))))
       (λ κs qs bounds a g are. via 𝓤 _ (fst∗ 𝓤 _ (emp 𝓤)) (walk 𝓤 H A W mem run κs qs a (𝓣 .C) (𝓣 .Λ) (fmOf 𝓤 H (W .laws) 𝓣) (are .0 .0 .1) (are .1 .1 .0 .1) known))
 
-  tell-meets : Meets 𝓤 H A tell.signature (WpFn 𝓤 H (𝓣 .C) (𝓣 .Λ) code.function) (tell.spec 𝓤 H A mem run)
-  tell-meets = walk-meets 𝓤 H A tell.ended stayed W (goes-none-slice 𝓤 H A W 1 (0 ∷ []) tt (plain (λ _. T.the-row)) yes, (goes-none 𝓤 H A W 1 (λ _. bool) yes (λ κs x f. refl), (goes-none 𝓤 H A W 1 (λ _. u32) yes (λ κs x f. refl), tt)))
-      (tell.clauses 𝓤 H A mem run) (WpFn 𝓤 H (𝓣 .C) (𝓣 .Λ) code.function) (WpFn-mono 𝓤 H (W .laws) 𝓣 code.function) tell-walks
+  query-meets : Meets 𝓤 H A query.signature (WpFn 𝓤 H (𝓣 .C) (𝓣 .Λ) code.function) (query.spec 𝓤 H A mem run)
+  query-meets = walk-meets 𝓤 H A query.ended stayed W (goes-none-slice 𝓤 H A W 1 (0 ∷ []) tt (plain (λ _. T.the-row)) yes, (goes-none 𝓤 H A W 1 (λ _. bool) yes (λ κs x f. refl), (goes-none 𝓤 H A W 1 (λ _. u32) yes (λ κs x f. refl), tt)))
+      (query.clauses 𝓤 H A mem run) (WpFn 𝓤 H (𝓣 .C) (𝓣 .Λ) code.function) (WpFn-mono 𝓤 H (W .laws) 𝓣 code.function) query-walks
 
-pub tell-long-spec : {M : Type 1} → stated.statement M
+pub query-long-spec : {M : Type 1} → stated.statement M
 unfolding code.routine tablesOf
-tell-long-spec 𝓤 H 𝓜 𝓖 𝓡 =
-    entered 𝓤 H (tripleOf 𝓤 H (𝓖 .A) tell.signature (tell.spec 𝓤 H (𝓖 .A) (𝓜 .mem) (𝓡 .run)))
-    (tables 𝓤 H 𝓜 𝓡 code.env .C) (tables 𝓤 H 𝓜 𝓡 code.env .Λ) #prefixes·tell-long code.function (code.unfolded 𝓤 H 𝓜 𝓡)
-    (tell-meets 𝓤 H (𝓖 .A) (givenOf 𝓤 H 𝓜 𝓖) (𝓜 .mem) (𝓡 .run) (tablesOf 𝓤 H 𝓜 (tables 𝓤 H 𝓜 𝓡 code.env)) (
-      cited 𝓤 H (Limited 𝓤 H (𝓖 .A) 512) 𝓜 𝓡 code.env #prefixes·tell-512 tell-512-def.routine code.calls-prefixes·tell-512 (tell-512-thm.met 𝓤 H 𝓜 𝓖 𝓡),
+query-long-spec 𝓤 H 𝓜 𝓖 𝓡 =
+    entered 𝓤 H (tripleOf 𝓤 H (𝓖 .A) query.signature (query.spec 𝓤 H (𝓖 .A) (𝓜 .mem) (𝓡 .run)))
+    (tables 𝓤 H 𝓜 𝓡 code.env .C) (tables 𝓤 H 𝓜 𝓡 code.env .Λ) #prefixes·query-long code.function (code.unfolded 𝓤 H 𝓜 𝓡)
+    (query-meets 𝓤 H (𝓖 .A) (givenOf 𝓤 H 𝓜 𝓖) (𝓜 .mem) (𝓡 .run) (tablesOf 𝓤 H 𝓜 (tables 𝓤 H 𝓜 𝓡 code.env)) (
+      cited 𝓤 H (Limited 𝓤 H (𝓖 .A) 512) 𝓜 𝓡 code.env #prefixes·query-512 query-512-def.routine code.calls-prefixes·query-512 (query-512-thm.met 𝓤 H 𝓜 𝓖 𝓡),
       (
-        cited 𝓤 H (Limited 𝓤 H (𝓖 .A) 4096) 𝓜 𝓡 code.env #prefixes·tell-4096 tell-4096-def.routine code.calls-prefixes·tell-4096 (tell-4096-thm.met 𝓤 H 𝓜 𝓖 𝓡),
+        cited 𝓤 H (Limited 𝓤 H (𝓖 .A) 4096) 𝓜 𝓡 code.env #prefixes·query-4096 query-4096-def.routine code.calls-prefixes·query-4096 (query-4096-thm.met 𝓤 H 𝓜 𝓖 𝓡),
         cited 𝓤 H (TooMany 𝓤 H (𝓖 .A) (𝓜 .mem) (𝓡 .run)) 𝓜 𝓡 code.env #prefixes·too-many too-many-def.routine code.calls-prefixes·too-many (too-many-thm.met 𝓤 H 𝓜 𝓖 𝓡),
       ),
     ))
