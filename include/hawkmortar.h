@@ -85,6 +85,30 @@ struct hawkmortar_outcome hawkmortar_list_lookup(
     const uint32_t *hops, size_t hops_len,
     uint32_t q);
 
+/* A prefix with its next hop. */
+struct hawkmortar_prefix {
+    uint32_t address;
+    uint32_t length;
+    uint32_t hop;
+};
+
+/*
+ * Tests a list that is one row of prefixes with their next hops, in any order.
+ * Value: the number of entries.
+ * Refusals: 8 for more than 4,096 entries; then entry by entry 1, 2, 3, 4, the place being the entry.
+ */
+struct hawkmortar_outcome hawkmortar_prefixes_check(
+    const struct hawkmortar_prefix *list, size_t list_len);
+
+/*
+ * Looks the address q up in a list that is one row of prefixes.
+ * Value: the next hop of the longest prefix that matches q, 0 where none matches.
+ * Refusals: as of hawkmortar_prefixes_check.
+ */
+struct hawkmortar_outcome hawkmortar_prefixes_lookup(
+    const struct hawkmortar_prefix *list, size_t list_len,
+    uint32_t q);
+
 /*
  * Slots: two rows, of addresses and tags, where a tag is length x 65,536 + hop and a free slot is 0 in
  * both. Each call refuses with 8 rows of unequal length, no slots and more than 4,096 slots.

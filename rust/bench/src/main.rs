@@ -1,9 +1,11 @@
-//! The proved code beside plain Rust that does the same checked work in the same shape, in one run.
+//! The proved code beside plain Rust that does the same checked work in the same shape, in one run. A second table has the calls over
+//! a list of structs beside those over rows.
 //!
 //! Rounds of both are taken in turn, and the least time of each counts: what is above it is the machine's doing. The rows are in
 //! the cache, and nothing is cleared between rounds. The report programs are run as processes.
 
 use bench::plain;
+use hawkmortar::prefixes::Entry;
 use hawkmortar::{NextHop, Prefix, Record};
 use second::program;
 use second::random::{Random, Rows};
@@ -36,20 +38,22 @@ fn least_of(rounds: usize, calls: u32, mut one: impl FnMut(), mut other: impl Fn
     least.map(|time| time.as_nanos() as f64 / f64::from(calls))
 }
 
-/// A line of the proved code and of plain Rust.
-fn compare(name: &str, calls: u32, proved: impl FnMut(), plain: impl FnMut()) {
-    line(name, least(calls, proved, plain));
+/// A line of the proved code and of what it is compared with.
+fn compare(name: &str, calls: u32, proved: impl FnMut(), other: impl FnMut()) {
+    line(name, least(calls, proved, other));
 }
 
-fn line(name: &str, [proved, plain]: [f64; 2]) {
-    println!("{name:<32} {proved:>12.1} {plain:>12.1} {:>8.2}", proved / plain);
+fn line(name: &str, [proved, other]: [f64; 2]) {
+    println!("{name:<32} {proved:>12.1} {other:>12.1} {:>8.2}", proved / other);
+}
+
+/// The names above the columns of a table.
+fn head(one: &str, other: &str) {
+    println!("{:<32} {one:>12} {other:>12} {:>8}", "operation", "ratio");
 }
 
 fn main() {
-    println!(
-        "{:<32} {:>12} {:>12} {:>8}",
-        "operation", "proved ns", "plain ns", "ratio"
-    );
+    head("proved ns", "plain ns");
     for (entries, calls) in [(16, 20_000), (256, 200), (4096, 2)] {
         list(entries, calls);
     }
@@ -77,12 +81,36 @@ fn main() {
     dxr_lookups();
     records();
     reports();
+    println!();
+    head("struct ns", "rows+copy ns");
+    for (entries, calls) in [
+        (16, 20_000),
+        (64, 2000),
+        (65, 2000),
+        (256, 200),
+        (512, 50),
+        (513, 50),
+        (4096, 2),
+    ] {
+        prefixes(entries, calls);
+    }
+}
+
+/// Entries of which none lies inside another.
+fn list_of(entries: u32) -> Rows {
+    Rows {
+        addresses: (0..entries).map(|i| i << 16).collect(),
+        lengths: (0..entries).map(|i| 16 + i % 17).collect(),
+        hops: (0..entries).map(|i| 1 + i % 300).collect(),
+    }
 }
 
 fn list(entries: u32, calls: u32) {
-    let addresses: Vec<u32> = (0..entries).map(|i| i << 16).collect();
-    let lengths: Vec<u32> = (0..entries).map(|i| 16 + i % 17).collect();
-    let hops: Vec<u32> = (0..entries).map(|i| 1 + i % 300).collect();
+    let Rows {
+        addresses,
+        lengths,
+        hops,
+    } = list_of(entries);
     let q = (entries / 2) << 16;
     assert_eq!(
         hawkmortar::list::lookup(&addresses, &lengths, &hops, q).map(|hop| hop.map_or(0, |hop| hop.get().into())),
@@ -98,6 +126,50 @@ fn list(entries: u32, calls: u32) {
         || {
             let rows = (black_box(&addresses), black_box(&lengths), black_box(&hops));
             let _ = black_box(plain::lookup(rows.0, rows.1, rows.2, black_box(q)));
+        },
+    );
+}
+
+/// The calls over a list of structs beside the calls over its rows, to which one copy of the structs is added. The ratio is to be at
+/// most 1.25.
+fn prefixes(entries: u32, calls: u32) {
+    let rows = list_of(entries);
+    let (addresses, lengths, hops) = (&rows.addresses[..], &rows.lengths[..], &rows.hops[..]);
+    let prefixes = addresses.iter().zip(lengths);
+    let list: Vec<Entry> = prefixes
+        .zip(hops)
+        .map(|((&address, &length), &hop)| Entry { address, length, hop })
+        .collect();
+    let q = (entries / 2) << 16;
+    assert_eq!(hawkmortar::prefixes::check(&list), Ok(entries as usize));
+    assert_eq!(
+        hawkmortar::prefixes::lookup(&list, q),
+        hawkmortar::list::lookup(addresses, lengths, hops, q)
+    );
+    let mut copy = list.clone();
+    let mut copied = || black_box(&mut copy).copy_from_slice(black_box(&list));
+    compare(
+        &format!("prefixes check, {entries} entries"),
+        calls,
+        || {
+            let _ = black_box(hawkmortar::prefixes::check(black_box(&list)));
+        },
+        || {
+            copied();
+            let rows = (black_box(addresses), black_box(lengths), black_box(hops));
+            let _ = black_box(hawkmortar::list::check(rows.0, rows.1, rows.2));
+        },
+    );
+    compare(
+        &format!("prefixes lookup, {entries} entries"),
+        calls,
+        || {
+            let _ = black_box(hawkmortar::prefixes::lookup(black_box(&list), black_box(q)));
+        },
+        || {
+            copied();
+            let rows = (black_box(addresses), black_box(lengths), black_box(hops));
+            let _ = black_box(hawkmortar::list::lookup(rows.0, rows.1, rows.2, black_box(q)));
         },
     );
 }

@@ -1,11 +1,13 @@
 /*
  * The board's set P from C. First the list: each answer on a line, then the outcome of a list with a repeated prefix.
- * Then case f, sets in 8 slots: each plan's outcome, and the image. Then case g, a removal: the plan's outcome, the
- * answer for 10.20.4.10 after each number of its writes, and the image. Then case h, ranges: the outcome of a build
- * with a cell of room too few, that of a build with room for all, the ranges, and each answer on a line. Then cases i
- * and j, the DXR table with and without the /32: the outcome of the build, the main word of chunk 2580, its range
- * words, which are all there are, and each answer on a line. Then the report's records: the outcome of each call up
- * to the end of the input, of one past it and of one on cut bytes, with the four numbers after it.
+ * Then the list as one row of prefixes: the outcome of its test, each answer on a line, case e, and the outcomes of
+ * lists with a repeated prefix, a length too large, a hop of 0 and no entry. Then case f, sets in 8 slots: each plan's
+ * outcome, and the image. Then case g, a removal: the plan's outcome, the answer for 10.20.4.10 after each number of
+ * its writes, and the image. Then case h, ranges: the outcome of a build with a cell of room too few, that of a build
+ * with room for all, the ranges, and each answer on a line. Then cases i and j, the DXR table with and without the
+ * /32: the outcome of the build, the main word of chunk 2580, its range words, which are all there are, and each
+ * answer on a line. Then the report's records: the outcome of each call up to the end of the input, of one past it and
+ * of one on cut bytes, with the four numbers after it.
  */
 #include <inttypes.h>
 #include <stdio.h>
@@ -39,6 +41,25 @@ static uint32_t ip(uint32_t a, uint32_t b, uint32_t c, uint32_t d)
 static void show(struct hawkmortar_outcome outcome)
 {
     printf("%" PRIu64 " %" PRIu64 "\n", outcome.refusal, outcome.value);
+}
+
+static void show_prefixes(const uint32_t *addresses, const uint32_t *keys)
+{
+    struct hawkmortar_prefix list[ENTRIES];
+    for (size_t i = 0; i < ENTRIES; i++)
+        list[i] = (struct hawkmortar_prefix){.address = addresses[i], .length = lengths[i], .hop = hops[i]};
+    show(hawkmortar_prefixes_check(list, ENTRIES));
+    for (size_t i = 0; i < KEYS; i++)
+        show(hawkmortar_prefixes_lookup(list, ENTRIES, keys[i]));
+    show(hawkmortar_prefixes_lookup(list, ENTRIES - 1, ip(11, 0, 0, 0)));
+
+    list[3] = list[1];
+    show(hawkmortar_prefixes_check(list, ENTRIES));
+    list[2].length = 33;
+    show(hawkmortar_prefixes_lookup(list, ENTRIES, keys[0]));
+    list[0].hop = 0;
+    show(hawkmortar_prefixes_check(list, ENTRIES));
+    show(hawkmortar_prefixes_check(list, 0));
 }
 
 static void show_image(void)
@@ -121,6 +142,7 @@ int main(void)
         show(hawkmortar_list_lookup(addresses, ENTRIES, lengths, ENTRIES, hops, ENTRIES, keys[i]));
     }
     show(hawkmortar_list_check(twice, 2, twice, 2, hops, 2));
+    show_prefixes(addresses, keys);
 
     for (size_t i = 0; i < ENTRIES; i++) {
         struct hawkmortar_outcome planned = hawkmortar_plan_set(

@@ -20,6 +20,8 @@
 //! assert_eq!(list::check(&addresses, &[8, 8], &hops), Err(Refusal::Address(1)));
 //! ```
 //!
+//! [`prefixes`] has the calls of [`list`] over one slice of entries.
+//!
 //! A [`Table`] keeps routes in slots and plans each update as a row of single writes; [`slots`] has the same calls over lent
 //! rows. A [`RangeTable`] has the routes of a list merged into ranges of addresses; [`ranges`] has its calls over lent rows. A
 //! [`DxrTable`] has these ranges by chunks of addresses, so that a lookup looks at one chunk; [`dxr`] has its calls. Updates
@@ -33,6 +35,7 @@ mod ffi;
 pub mod list;
 mod parse;
 mod prefix;
+pub mod prefixes;
 pub mod range_table;
 pub mod ranges;
 pub mod records;

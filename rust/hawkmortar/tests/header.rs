@@ -102,6 +102,7 @@ fn a_c_program_over_the_header_answers_the_board() {
     assert!(ran.status.success());
     let answers = "0 2\n0 3\n0 2\n0 7\n";
     let twice = "4 1\n";
+    let prefixes = format!("0 5\n{answers}0 0\n4 3\n1 2\n3 0\n0 0\n");
     let sets = "0 1\n0 1\n0 2\n0 3\n0 2\n";
     let removal = "0 2\n0 3\n0 2\n0 2\n";
     let builds = "9 0\n0 9\n";
@@ -111,6 +112,6 @@ fn a_c_program_over_the_header_answers_the_board() {
     let dxr = format!("{CHUNK}{answers}{CHUNK_WITHOUT_32}{answers_without_32}");
     assert_eq!(
         String::from_utf8_lossy(&ran.stdout),
-        format!("{answers}{twice}{slots}{ranges}{dxr}{RECORDS}")
+        format!("{answers}{twice}{prefixes}{slots}{ranges}{dxr}{RECORDS}")
     );
 }

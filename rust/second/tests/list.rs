@@ -2,10 +2,9 @@
 
 mod both;
 
-use both::list::{check, lookup, one, set_p, with_one_fault};
+use both::list::{check, edges, lookup, one, set_p, with_one_fault};
 use hawkmortar::{list as proved, NextHop};
 use second::ip;
-use second::list::bounds;
 use second::random::{Random, Rows};
 
 /// Both programs test the list alike, and answer each key alike.
@@ -14,16 +13,6 @@ fn same(rows: &Rows, keys: impl IntoIterator<Item = u32>) {
     for q in keys {
         let _ = lookup(rows, q);
     }
-}
-
-/// Each prefix's first and last address and those one beyond, from entry `first` on in steps.
-fn edges(rows: &Rows, first: usize, step: usize) -> Vec<u32> {
-    let mut keys = vec![0, u32::MAX];
-    for (&address, &length) in rows.addresses.iter().zip(&rows.lengths).skip(first).step_by(step) {
-        let (first, last) = bounds(address, length.min(32));
-        keys.extend([first, last, first.wrapping_sub(1), last.wrapping_add(1)]);
-    }
-    keys
 }
 
 #[test]

@@ -73,26 +73,39 @@ pub fn routes(list: &Rows) -> impl Iterator<Item = (Prefix, NextHop)> + '_ {
     })
 }
 
+/// Each prefix's first and last address and those one beyond, from entry `first` on in steps.
+pub fn edges(rows: &Rows, first: usize, step: usize) -> Vec<u32> {
+    let mut keys = vec![0, u32::MAX];
+    for (&address, &length) in rows.addresses.iter().zip(&rows.lengths).skip(first).step_by(step) {
+        keys.extend(super::edges(address, length.min(32)));
+    }
+    keys
+}
+
 /// Copies of a good list with one fault each, and the refusal it is to get: each of 1, 2 and 3 at each place, and 4 at each place
 /// for each earlier entry.
 pub fn with_one_fault(good: &Rows) -> Vec<(Rows, Fault)> {
+    let places = 0..good.addresses.len();
+    places.flat_map(|place| with_fault_at(good, place, 0..place)).collect()
+}
+
+/// Copies of a good list with one fault each at a place: each of 1, 2 and 3, and 4 for some earlier entries.
+pub fn with_fault_at(good: &Rows, place: usize, earlier: impl IntoIterator<Item = usize>) -> Vec<(Rows, Fault)> {
     let mut faulty = Vec::new();
-    let mut change = |number, place: usize, entry: (u32, u32, u32)| {
+    let mut change = |number, entry: (u32, u32, u32)| {
         let mut rows = good.clone();
         (rows.addresses[place], rows.lengths[place], rows.hops[place]) = entry;
         faulty.push((rows, (number, place)));
     };
     let entry = |i: usize| (good.addresses[i], good.lengths[i], good.hops[i]);
-    for place in 0..good.addresses.len() {
-        let (address, length, hop) = entry(place);
-        change(1, place, (address, 33, hop));
-        change(2, place, (address | 1, 31, hop));
-        change(3, place, (address, length, 0));
-        change(3, place, (address, length, 65_536));
-        for (address, length, hop) in (0..place).map(entry) {
-            change(4, place, (address, length, hop));
-            change(4, place, (address, length, 9));
-        }
+    let (address, length, hop) = entry(place);
+    change(1, (address, 33, hop));
+    change(2, (address | 1, 31, hop));
+    change(3, (address, length, 0));
+    change(3, (address, length, 65_536));
+    for (address, length, hop) in earlier.into_iter().map(entry) {
+        change(4, (address, length, hop));
+        change(4, (address, length, 9));
     }
     faulty
 }

@@ -1,12 +1,13 @@
 //! The calls, each asked of both programs: the answers are compared, and so is every cell that was lent. A refused call has left
 //! all of them as they were, an accepted one has changed exactly what the second program says. The slot calls are here, those of
-//! lists, ranges, DXR tables and records in their own modules.
+//! lists in rows and in one slice, ranges, DXR tables and records in their own modules.
 
 // a test file needs only a part
 #![allow(dead_code)]
 
 pub mod dxr;
 pub mod list;
+pub mod prefixes;
 pub mod ranges;
 pub mod records;
 
