@@ -8,6 +8,8 @@ use lib.ListN.{length, replicate}
 use Rattle.route.specs.Rule.{Route, route}
 use Rattle.route.specs.Refusals.{Answer, value, refused}
 use Rattle.route.specs.Lists.{listLookup}
+use Rattle.route.specs.declared.Prefix.{Prefix}
+use Rattle.prefixes.specs.Prefixes.{prefixesLookup}
 use Rattle.tcam.specs.Slots.{Cell, free, lengthIn, hopIn}
 use Rattle.tcam.specs.Tables.{addresses, tags}
 use Rattle.tcam.specs.Plans
@@ -39,6 +41,13 @@ numbers (refused n p) = 0 ∷ n ∷ p ∷ []
 -- the plain answer over the list of these routes
 abbrev pub found : List Route → ℕ → List ℕ
 found rs q = numbers (listLookup 32 (map (λ r. r .address) rs) (map (λ r. r .length) rs) (map (λ r. r .hop) rs) q)
+
+-- the same over the list as one slice of prefixes
+abbrev pub prefixOf : Route → Prefix
+prefixOf r = record { address = r .address; length = record { 0 = r .length }; hop = record { 0 = r .hop } }
+
+abbrev pub foundInOne : List Route → ℕ → List ℕ
+foundInOne rs q = numbers (prefixesLookup 32 (map prefixOf rs) q)
 
 -- the writes of a plan; none where it is refused
 abbrev pub made : Planned → List Write
@@ -84,7 +93,7 @@ shownChunk rs c = mainWord entries (length (allWords 32 16 t c)) ∷ words entri
     entries : List Range
     entries = chunk 32 16 t c
 
--- cases a to d, e, f, g, h, i, j; then the most writes of a set and of a removal over 32 bits
+-- cases a to d, e; b and e over one slice; f, g, h, i, j; then the most writes of a set and of a removal over 32 bits
 abbrev pub got : List (List ℕ)
 got =
     found setP (ip 10 20 4 9)
@@ -92,6 +101,7 @@ got =
     ∷ found setP (ip 10 20 5 0)
     ∷ found setP (ip 255 255 255 255)
     ∷ found withoutDefault (ip 11 0 0 0)
+    ∷ (foundInOne setP (ip 10 20 4 10) ++ foundInOne withoutDefault (ip 11 0 0 0))
     ∷ counts (replicate 8 free) setP
     ∷ shownSlots eightSlots
     ∷ Plans.numbers (removeWrites eightSlots (ip 10 20 4 0) 24)
@@ -108,6 +118,7 @@ expected =
     ∷ (2 ∷ [])
     ∷ (7 ∷ [])
     ∷ (0 ∷ [])
+    ∷ (3 ∷ 0 ∷ [])
     ∷ (1 ∷ 1 ∷ 2 ∷ 3 ∷ 2 ∷ [])
     ∷ (ip 10 20 4 9 ∷ 32 ∷ 2 ∷ ip 10 20 4 0 ∷ 24 ∷ 3 ∷ ip 10 20 0 0 ∷ 16 ∷ 2
     ∷ 0 ∷ 0 ∷ 0 ∷ 0 ∷ 0 ∷ 0 ∷ 0 ∷ 0 ∷ 0

@@ -1,4 +1,4 @@
--- The contract that `query_64`, `query_512` and `query_4096` have, by the most entries of a list; and what each still has of its parameters at exit.
+-- The contract that `query_64`, `query_256` and `query_4096` have, by the most entries of a list; and what each still has of its parameters at exit.
 use Prim.Native.Nat.{ℕ, _≤_}
 use mathlib.Core.List.{[], _∷_}
 use lib.ListN.{length}

@@ -61,8 +61,8 @@ fn hop_of(reply: Reply) -> Found
 fn query_long(list: &[Prefix], looking: bool, q: u32) -> Reply
     ensures { λ r. ⌜ IsReplyOf 32 looking (now (list .entry)) q r ⌝ }
 {
-    if list.len() <= 512 {
-        return query_512(list, looking, q);
+    if list.len() <= 256 {
+        return query_256(list, looking, q);
     }
     if list.len() <= MAX_ROUTES {
         return query_4096(list, looking, q);
@@ -90,12 +90,12 @@ fn query_64(list: &[Prefix], looking: bool, q: u32) -> Reply
     query_rows(&rows, list.len(), looking, q)
 }
 
-// Queries a list of at most 512 entries.
-fn query_512(list: &[Prefix], looking: bool, q: u32) -> Reply
-    requires { ⌜ length (now list) ≤ 512 ⌝ }
+// Queries a list of at most 256 entries.
+fn query_256(list: &[Prefix], looking: bool, q: u32) -> Reply
+    requires { ⌜ length (now list) ≤ 256 ⌝ }
     ensures { λ r. ⌜ IsReplyOf 32 looking (now (list .entry)) q r ⌝ }
 {
-    let mut rows = [0u32; 1536];
+    let mut rows = [0u32; 768];
     copy_rows(list, &mut rows);
     query_rows(&rows, list.len(), looking, q)
 }

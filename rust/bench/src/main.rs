@@ -83,15 +83,7 @@ fn main() {
     reports();
     println!();
     head("struct ns", "rows+copy ns");
-    for (entries, calls) in [
-        (16, 20_000),
-        (64, 2000),
-        (65, 2000),
-        (256, 200),
-        (512, 50),
-        (513, 50),
-        (4096, 2),
-    ] {
+    for (entries, calls) in [(16, 20_000), (64, 2000), (65, 2000), (256, 200), (257, 200), (4096, 2)] {
         prefixes(entries, calls);
     }
 }

@@ -47,8 +47,8 @@ use Rattle.prefixes.proofs.Walk.{Free, Full}
 use Rattle.prefixes.proofs.Listed.{listTy, listed, Owned, Live}
 use Rattle.prefixes.proofs.QueryCall.{asks}
 use Rattle.prefixes.proofs.Limited.{limited, Limited}
-use Rattle.prefixes.proofs.Reply as B
-use Rattle.prefixes.proofs.Reply.Laws as B′
+use Rattle.prefixes.proofs.Reply as R
+use Rattle.prefixes.proofs.Reply.Laws as R′
 use Rattle.prefixes.proofs.query_64.Symbol as query-64-def
 use Rattle.prefixes.proofs.query_64.Symbol.{name as #prefixes·query-64}
 use Rattle.prefixes.proofs.query_64.Met as query-64-thm
@@ -109,17 +109,17 @@ module _ {M : Type 1} (𝓤 : URA M) (H : Heap 𝓤) (A : Atoms 𝓤) (W : Given
   abbrev to : Reply → Val → CountOf 𝓤 H A mem run .Ghost
   to reply u = ((tt, tt, tt, (reply, tt), (u ∷ [], tt)), tt)
 
-  asked : (reply : Reply) (u : Val) → ent 𝓤 (⋆ 𝓤 H A (‵ (B.the-row .own reply (u ∷ [])) ∷ [])) (CountOf 𝓤 H A mem run .pre (to reply u))
-  asked reply u = qed W (‵ (B.the-row .own reply (u ∷ [])) ∷ []) ∵ nothing ! $ move ! (1 ∷ 0 ∷ []) $ fjoin ! $ nothing ! $ join ! $ nothing ! $ move ! (1 ∷ 0 ∷ []) $ done !
+  asked : (reply : Reply) (u : Val) → ent 𝓤 (⋆ 𝓤 H A (‵ (R.the-row .own reply (u ∷ [])) ∷ [])) (CountOf 𝓤 H A mem run .pre (to reply u))
+  asked reply u = qed W (‵ (R.the-row .own reply (u ∷ [])) ∷ []) ∵ nothing ! $ move ! (1 ∷ 0 ∷ []) $ fjoin ! $ nothing ! $ join ! $ nothing ! $ move ! (1 ∷ 0 ∷ []) $ done !
 
   module _ (C : Calls 𝓤 H) (Λ : Loops 𝓤 H) (fm : FmC 𝓤 H (W .laws) C) (known : Known 𝓤 H A mem run C) (g : Room T.the-row n) where
     module _ (l₀ l₁ l₂ l₃ l₄ l₅ : ℕ) where
       abbrev En : Env 𝓤 H
-      En = (N′.mir, l₀) ∷ (listTy, l₁) ∷ (tyInt w64, l₂) ∷ (tyBool, l₃) ∷ (B′.mir, l₄) ∷ (B′.mir, l₅) ∷ []
+      En = (N′.mir, l₀) ∷ (listTy, l₁) ∷ (tyInt w64, l₂) ∷ (tyBool, l₃) ∷ (R′.mir, l₄) ∷ (R′.mir, l₅) ∷ []
 
       -- the locals behind the test
       abbrev Tested : List (Item 𝓤)
-      Tested = Free B′.mir l₅ (Free B′.mir l₄ (Full tyBool l₃ (vbool (leb n 64)) (Full (tyInt w64) l₂ (vint w64 n) (Full listTy l₁ v (Free N′.mir l₀ [])))))
+      Tested = Free R′.mir l₅ (Free R′.mir l₄ (Full tyBool l₃ (vbool (leb n 64)) (Full (tyInt w64) l₂ (vint w64 n) (Full listTy l₁ v (Free N′.mir l₀ [])))))
 
       -- the count is returned
       leaves : (c : Counted) (u : Val) → counted c ≡ prefixesCheck 32 (r .now) → Is N.the-row c (u ∷ []) → {p : Posts 𝓤 H} → post 𝓤 H p returnsᴼ ≡ atReturn 𝓤 H En Post returnsᴼ
@@ -131,7 +131,7 @@ module _ {M : Type 1} (𝓤 : URA M) (H : Heap 𝓤) (A : Atoms 𝓤) (W : Given
           by ! (exits c u e)
 
       -- the body, from the locals as they are when the parameters are stored
-      begins : Sq W (Free B′.mir l₅ (Free B′.mir l₄ (Free tyBool l₃ (Free (tyInt w64) l₂ (Full listTy l₁ v (Free N′.mir l₀ (Token ∷ ‵ (owns (ShrSlice (named 0) κ T.the-row ∷ []) (r, tt) at) ∷ []))))))) (runs C Λ En body.t-1 (atRet En Post))
+      begins : Sq W (Free R′.mir l₅ (Free R′.mir l₄ (Free tyBool l₃ (Free (tyInt w64) l₂ (Full listTy l₁ v (Free N′.mir l₀ (Token ∷ ‵ (owns (ShrSlice (named 0) κ T.the-row ∷ []) (r, tt) at) ∷ []))))))) (runs C Λ En body.t-1 (atRet En Post))
       begins =
           move ! (13 ∷ []) $ fsplit ! $ move ! (1 ∷ []) $ drop ! $ move ! (0 ∷ 13 ∷ []) $
           assigns ! (of-opd ! (load ! (from ! (fld ! refl (stop !))) (look-in ! 10 (sub ! 1 refl (whole !))))) (from ! (stop !)) (init ! 8 refl (tt, record { fits = g .0 })) $
@@ -139,12 +139,12 @@ module _ {M : Type 1} (𝓤 : URA M) (H : Heap 𝓤) (A : Atoms 𝓤) (W : Given
           first ! $ branches ! (load ! (from ! (stop !)) (look ! 6 refl))
           (λ h. asks 𝓤 H A W κ q r false 0 (lit< tt) (limited 𝓤 64) tt (guardI 𝓤 (n ≤ 64) (emp 𝓤) (leb→le n 64 h)) (λ reply end. id⊢ 𝓤 _) ! fm (known .0)
           (and-then ! (load ! (from ! (stop !)) (look ! 10 refl)) (and-then ! (false-lit !) (and-then ! (lit ! tt) (no-more !)))) (λ reply u e is.
-          land ! (from ! (stop !)) (init ! 5 refl (LL.lawful B.the-type B′.the-laws 𝓤 H A W .typed reply (u ∷ []) is .0)) $ use1 W (raw (CountOf 𝓤 H A mem run .pre (to reply u))) (asked reply u) $
+          land ! (from ! (stop !)) (init ! 5 refl (LL.lawful R.the-type R′.the-laws 𝓤 H A W .typed reply (u ∷ []) is .0)) $ use1 W (raw (CountOf 𝓤 H A mem run .pre (to reply u))) (asked reply u) $
           calls-fact 𝓤 H A W count-of.ended (count-of.clauses 𝓤 H A mem run) (to reply u) (λ c. c ≡ reply .count) (λ c end. id⊢ 𝓤 _) ! fm (known .1 .1) (and-then ! (load ! (from ! (stop !)) (look ! 5 refl)) (no-more !)) (λ c u′ e′ is′.
           move ! (1 ∷ []) $ drop ! $ forget ! 5 refl $ leaves c u′ (ap counted e′ ∙ e .tested refl) is′ refl)))
           (λ _. skips ! $ exec ! C Λ En body.t-4 (atRet En Post) $ asks 𝓤 H A W κ q r false 0 (lit< tt) (query-long.clauses 𝓤 H A mem run) tt (id⊢ 𝓤 _) (λ reply end. id⊢ 𝓤 _) ! fm (known .1 .0)
           (and-then ! (load ! (from ! (stop !)) (look ! 10 refl)) (and-then ! (false-lit !) (and-then ! (lit ! tt) (no-more !)))) (λ reply u e is.
-          land ! (from ! (stop !)) (init ! 3 refl (LL.lawful B.the-type B′.the-laws 𝓤 H A W .typed reply (u ∷ []) is .0)) $ use1 W (raw (CountOf 𝓤 H A mem run .pre (to reply u))) (asked reply u) $
+          land ! (from ! (stop !)) (init ! 3 refl (LL.lawful R.the-type R′.the-laws 𝓤 H A W .typed reply (u ∷ []) is .0)) $ use1 W (raw (CountOf 𝓤 H A mem run .pre (to reply u))) (asked reply u) $
           calls-fact 𝓤 H A W count-of.ended (count-of.clauses 𝓤 H A mem run) (to reply u) (λ c. c ≡ reply .count) (λ c end. id⊢ 𝓤 _) ! fm (known .1 .1) (and-then ! (load ! (from ! (stop !)) (look ! 3 refl)) (no-more !)) (λ c u′ e′ is′.
           move ! (1 ∷ []) $ drop ! $ forget ! 3 refl $ leaves c u′ (ap counted e′ ∙ e .tested refl) is′ refl)))
 

@@ -49,8 +49,8 @@ use Rattle.prefixes.proofs.Walk.{Free, Full}
 use Rattle.prefixes.proofs.Listed.{listTy, listed, Owned, Live}
 use Rattle.prefixes.proofs.QueryCall.{asks}
 use Rattle.prefixes.proofs.Limited.{limited, Limited}
-use Rattle.prefixes.proofs.Reply as B
-use Rattle.prefixes.proofs.Reply.Laws as B′
+use Rattle.prefixes.proofs.Reply as R
+use Rattle.prefixes.proofs.Reply.Laws as R′
 use Rattle.prefixes.proofs.query_64.Symbol as query-64-def
 use Rattle.prefixes.proofs.query_64.Symbol.{name as #prefixes·query-64}
 use Rattle.prefixes.proofs.query_64.Met as query-64-thm
@@ -111,17 +111,17 @@ module _ {M : Type 1} (𝓤 : URA M) (H : Heap 𝓤) (A : Atoms 𝓤) (W : Given
   abbrev to : Reply → Val → HopOf 𝓤 H A mem run .Ghost
   to reply u = ((tt, tt, tt, (reply, tt), (u ∷ [], tt)), tt)
 
-  asked : (reply : Reply) (u : Val) → ent 𝓤 (⋆ 𝓤 H A (‵ (B.the-row .own reply (u ∷ [])) ∷ [])) (HopOf 𝓤 H A mem run .pre (to reply u))
-  asked reply u = qed W (‵ (B.the-row .own reply (u ∷ [])) ∷ []) ∵ nothing ! $ move ! (1 ∷ 0 ∷ []) $ fjoin ! $ nothing ! $ join ! $ nothing ! $ move ! (1 ∷ 0 ∷ []) $ done !
+  asked : (reply : Reply) (u : Val) → ent 𝓤 (⋆ 𝓤 H A (‵ (R.the-row .own reply (u ∷ [])) ∷ [])) (HopOf 𝓤 H A mem run .pre (to reply u))
+  asked reply u = qed W (‵ (R.the-row .own reply (u ∷ [])) ∷ []) ∵ nothing ! $ move ! (1 ∷ 0 ∷ []) $ fjoin ! $ nothing ! $ join ! $ nothing ! $ move ! (1 ∷ 0 ∷ []) $ done !
 
   module _ (C : Calls 𝓤 H) (Λ : Loops 𝓤 H) (fm : FmC 𝓤 H (W .laws) C) (known : Known 𝓤 H A mem run C) (g : Room T.the-row n) where
     module _ (l₀ l₁ l₂ l₃ l₄ l₅ l₆ : ℕ) where
       abbrev En : Env 𝓤 H
-      En = (F′.mir, l₀) ∷ (listTy, l₁) ∷ (tyInt w32, l₂) ∷ (tyInt w64, l₃) ∷ (tyBool, l₄) ∷ (B′.mir, l₅) ∷ (B′.mir, l₆) ∷ []
+      En = (F′.mir, l₀) ∷ (listTy, l₁) ∷ (tyInt w32, l₂) ∷ (tyInt w64, l₃) ∷ (tyBool, l₄) ∷ (R′.mir, l₅) ∷ (R′.mir, l₆) ∷ []
 
       -- the locals behind the test
       abbrev Tested : List (Item 𝓤)
-      Tested = Free B′.mir l₆ (Free B′.mir l₅ (Full tyBool l₄ (vbool (leb n 64)) (Full (tyInt w64) l₃ (vint w64 n) (Full (tyInt w32) l₂ (vint w32 k) (Full listTy l₁ v (Free F′.mir l₀ []))))))
+      Tested = Free R′.mir l₆ (Free R′.mir l₅ (Full tyBool l₄ (vbool (leb n 64)) (Full (tyInt w64) l₃ (vint w64 n) (Full (tyInt w32) l₂ (vint w32 k) (Full listTy l₁ v (Free F′.mir l₀ []))))))
 
       -- the hop is returned
       leaves : (f : Found) (u : Val) → shown f ≡ prefixesLookup 32 (r .now) k → Is F.the-row f (u ∷ []) → {p : Posts 𝓤 H} → post 𝓤 H p returnsᴼ ≡ atReturn 𝓤 H En Post returnsᴼ
@@ -133,7 +133,7 @@ module _ {M : Type 1} (𝓤 : URA M) (H : Heap 𝓤) (A : Atoms 𝓤) (W : Given
           by ! (exits f u e)
 
       -- the body, from the locals as they are when the parameters are stored
-      begins : Sq W (Free B′.mir l₆ (Free B′.mir l₅ (Free tyBool l₄ (Free (tyInt w64) l₃ (Full (tyInt w32) l₂ (vint w32 k) (Full listTy l₁ v (Free F′.mir l₀ (Token ∷ ‵ (owns (ShrSlice (named 0) κ T.the-row ∷ u32 ∷ []) (r, (k, tt)) at) ∷ [])))))))) (runs C Λ En body.t-1 (atRet En Post))
+      begins : Sq W (Free R′.mir l₆ (Free R′.mir l₅ (Free tyBool l₄ (Free (tyInt w64) l₃ (Full (tyInt w32) l₂ (vint w32 k) (Full listTy l₁ v (Free F′.mir l₀ (Token ∷ ‵ (owns (ShrSlice (named 0) κ T.the-row ∷ u32 ∷ []) (r, (k, tt)) at) ∷ [])))))))) (runs C Λ En body.t-1 (atRet En Post))
       begins =
           move ! (15 ∷ []) $ fsplit ! $ move ! (1 ∷ []) $ drop ! $ move ! (0 ∷ 15 ∷ []) $
           assigns ! (of-opd ! (load ! (from ! (fld ! refl (stop !))) (look-in ! 12 (sub ! 1 refl (whole !))))) (from ! (stop !)) (init ! 8 refl (tt, record { fits = g .0 })) $
@@ -141,12 +141,12 @@ module _ {M : Type 1} (𝓤 : URA M) (H : Heap 𝓤) (A : Atoms 𝓤) (W : Given
           first ! $ branches ! (load ! (from ! (stop !)) (look ! 6 refl))
           (λ h. asks 𝓤 H A W κ q r true k gk (limited 𝓤 64) tt (guardI 𝓤 (n ≤ 64) (emp 𝓤) (leb→le n 64 h)) (λ reply end. id⊢ 𝓤 _) ! fm (known .0)
           (and-then ! (load ! (from ! (stop !)) (look ! 12 refl)) (and-then ! (true-lit !) (and-then ! (load ! (from ! (stop !)) (look ! 10 refl)) (no-more !)))) (λ reply u e is.
-          land ! (from ! (stop !)) (init ! 5 refl (LL.lawful B.the-type B′.the-laws 𝓤 H A W .typed reply (u ∷ []) is .0)) $ use1 W (raw (HopOf 𝓤 H A mem run .pre (to reply u))) (asked reply u) $
+          land ! (from ! (stop !)) (init ! 5 refl (LL.lawful R.the-type R′.the-laws 𝓤 H A W .typed reply (u ∷ []) is .0)) $ use1 W (raw (HopOf 𝓤 H A mem run .pre (to reply u))) (asked reply u) $
           calls-fact 𝓤 H A W hop-of.ended (hop-of.clauses 𝓤 H A mem run) (to reply u) (λ f. f ≡ reply .hop) (λ f end. id⊢ 𝓤 _) ! fm (known .1 .1) (and-then ! (load ! (from ! (stop !)) (look ! 5 refl)) (no-more !)) (λ f u′ e′ is′.
           move ! (1 ∷ []) $ drop ! $ forget ! 5 refl $ leaves f u′ (ap shown e′ ∙ e .found refl) is′ refl)))
           (λ _. skips ! $ exec ! C Λ En body.t-4 (atRet En Post) $ asks 𝓤 H A W κ q r true k gk (query-long.clauses 𝓤 H A mem run) tt (id⊢ 𝓤 _) (λ reply end. id⊢ 𝓤 _) ! fm (known .1 .0)
           (and-then ! (load ! (from ! (stop !)) (look ! 12 refl)) (and-then ! (true-lit !) (and-then ! (load ! (from ! (stop !)) (look ! 10 refl)) (no-more !)))) (λ reply u e is.
-          land ! (from ! (stop !)) (init ! 3 refl (LL.lawful B.the-type B′.the-laws 𝓤 H A W .typed reply (u ∷ []) is .0)) $ use1 W (raw (HopOf 𝓤 H A mem run .pre (to reply u))) (asked reply u) $
+          land ! (from ! (stop !)) (init ! 3 refl (LL.lawful R.the-type R′.the-laws 𝓤 H A W .typed reply (u ∷ []) is .0)) $ use1 W (raw (HopOf 𝓤 H A mem run .pre (to reply u))) (asked reply u) $
           calls-fact 𝓤 H A W hop-of.ended (hop-of.clauses 𝓤 H A mem run) (to reply u) (λ f. f ≡ reply .hop) (λ f end. id⊢ 𝓤 _) ! fm (known .1 .1) (and-then ! (load ! (from ! (stop !)) (look ! 3 refl)) (no-more !)) (λ f u′ e′ is′.
           move ! (1 ∷ []) $ drop ! $ forget ! 3 refl $ leaves f u′ (ap shown e′ ∙ e .found refl) is′ refl)))
 

@@ -47,11 +47,11 @@ use Rattle.prefixes.proofs.Listed.{listTy, listed, Owned, Live}
 use Rattle.prefixes.proofs.QueryCall.{asks}
 use Rattle.prefixes.proofs.Limited.{stayed, limited, Limited}
 use Rattle.prefixes.proofs.Walk.{Free, Full, big-lit}
-use Rattle.prefixes.proofs.Reply as B
-use Rattle.prefixes.proofs.Reply.Laws as B′
-use Rattle.prefixes.proofs.query_512.Symbol as query-512-def
-use Rattle.prefixes.proofs.query_512.Symbol.{name as #prefixes·query-512}
-use Rattle.prefixes.proofs.query_512.Met as query-512-thm
+use Rattle.prefixes.proofs.Reply as R
+use Rattle.prefixes.proofs.Reply.Laws as R′
+use Rattle.prefixes.proofs.query_256.Symbol as query-256-def
+use Rattle.prefixes.proofs.query_256.Symbol.{name as #prefixes·query-256}
+use Rattle.prefixes.proofs.query_256.Met as query-256-thm
 use Rattle.prefixes.proofs.query_4096.Symbol as query-4096-def
 use Rattle.prefixes.proofs.query_4096.Symbol.{name as #prefixes·query-4096}
 use Rattle.prefixes.proofs.query_4096.Met as query-4096-thm
@@ -71,7 +71,7 @@ module _ {M : Type 1} (𝓤 : URA M) (H : Heap 𝓤) (A : Atoms 𝓤) (mem : Mem
   TooMany = tripleOf 𝓤 H A too-many.signature (too-many.spec 𝓤 H A mem run)
 
   abbrev Known : Calls 𝓤 H → Type 1
-  Known C = Triple 𝓤 (C #prefixes·query-512) (Limited 𝓤 H A 512) × (Triple 𝓤 (C #prefixes·query-4096) (Limited 𝓤 H A 4096) × Triple 𝓤 (C #prefixes·too-many) TooMany)
+  Known C = Triple 𝓤 (C #prefixes·query-256) (Limited 𝓤 H A 256) × (Triple 𝓤 (C #prefixes·query-4096) (Limited 𝓤 H A 4096) × Triple 𝓤 (C #prefixes·too-many) TooMany)
 
 module _ {M : Type 1} (𝓤 : URA M) (H : Heap 𝓤) (A : Atoms 𝓤) (W : Given 𝓤 H A) (mem : Memory → SProp 𝓤) (run : Routine → Fun 𝓤) (κs : Lfts 1) (qs : Shares 1) (a : Args query.signature κs) where
   abbrev r : RefT (List Prefix)
@@ -113,26 +113,26 @@ module _ {M : Type 1} (𝓤 : URA M) (H : Heap 𝓤) (A : Atoms 𝓤) (W : Given
   asked = qed W [] ∵ nothing ! $ nothing ! $ join ! $ nothing ! $ move ! (1 ∷ 0 ∷ []) $ done !
 
   module _ (gk : k < 2 ^ 32) where
-    exits : (reply : Reply) (u : Val) → IsReplyOf 32 looking (r .now) k reply → ent 𝓤 (⋆ 𝓤 H A (‵ (B.the-row .own reply (u ∷ [])) ∷ Token ∷ Own ∷ [])) (Post u)
+    exits : (reply : Reply) (u : Val) → IsReplyOf 32 looking (r .now) k reply → ent 𝓤 (⋆ 𝓤 H A (‵ (R.the-row .own reply (u ∷ [])) ∷ Token ∷ Own ∷ [])) (Post u)
     exits reply u e =
-        qed W (‵ (B.the-row .own reply (u ∷ [])) ∷ Token ∷ Own ∷ []) ∵
+        qed W (‵ (R.the-row .own reply (u ∷ [])) ∷ Token ∷ Own ∷ []) ∵
         suffices ! _ (ends-at 𝓤 H A query.ended stayed (query.clauses 𝓤 H A mem run) W ((κs, qs, tt, a, at), tt) u reply (tt, (tt, (tt, tt))) (tt, (tt, (tt, tt)))) $ says ! e $
         move ! (1 ∷ []) $ frame ! $ nothing ! $ owned ! u32 (Is u32) (uint-makes 𝓤 H A W w32) k _ (refl, gk) $ fjoin ! $ owned ! bool (Is bool) (bool-makes 𝓤 H A W) looking _ refl $ fjoin ! $
         move ! (2 ∷ 0 ∷ []) $ fjoin ! $ frame ! $ done !
 
     module _ (C : Calls 𝓤 H) (Λ : Loops 𝓤 H) (fm : FmC 𝓤 H (W .laws) C) (g : Room T.the-row n) (l₀ l₁ l₂ l₃ l₄ l₅ : ℕ) where
       abbrev En : Env 𝓤 H
-      En = (B′.mir, l₀) ∷ (listTy, l₁) ∷ (tyBool, l₂) ∷ (tyInt w32, l₃) ∷ (tyInt w64, l₄) ∷ (tyBool, l₅) ∷ []
+      En = (R′.mir, l₀) ∷ (listTy, l₁) ∷ (tyBool, l₂) ∷ (tyInt w32, l₃) ∷ (tyInt w64, l₄) ∷ (tyBool, l₅) ∷ []
 
       -- the locals behind a test that came out y. Local j stands at 2 · (5 − j)
       abbrev Tested : Bool → List (Item 𝓤)
-      Tested y = Full tyBool l₅ (vbool y) (Full (tyInt w64) l₄ (vint w64 n) (Full (tyInt w32) l₃ (vint w32 k) (Full tyBool l₂ (vbool looking) (Full listTy l₁ s (Free B′.mir l₀ [])))))
+      Tested y = Full tyBool l₅ (vbool y) (Full (tyInt w64) l₄ (vint w64 n) (Full (tyInt w32) l₃ (vint w32 k) (Full tyBool l₂ (vbool looking) (Full listTy l₁ s (Free R′.mir l₀ [])))))
 
       -- what a callee reply is returned
-      leaves : (y : Bool) (reply : Reply) (u : Val) → IsReplyOf 32 looking (r .now) k reply → Is B.the-row reply (u ∷ []) → {p : Posts 𝓤 H} → post 𝓤 H p returnsᴼ ≡ atReturn 𝓤 H En Post returnsᴼ
-          → Sq W (‵ (B.the-row .own reply (u ∷ [])) ∷ Token ∷ Own ∷ Tested y) (lands C Λ En (place 0 []) u return p)
+      leaves : (y : Bool) (reply : Reply) (u : Val) → IsReplyOf 32 looking (r .now) k reply → Is R.the-row reply (u ∷ []) → {p : Posts 𝓤 H} → post 𝓤 H p returnsᴼ ≡ atReturn 𝓤 H En Post returnsᴼ
+          → Sq W (‵ (R.the-row .own reply (u ∷ [])) ∷ Token ∷ Own ∷ Tested y) (lands C Λ En (place 0 []) u return p)
       leaves y reply u e is out =
-          land ! (from ! (stop !)) (init ! 13 refl (LL.lawful B.the-type B′.the-laws 𝓤 H A W .typed reply (u ∷ []) is .0)) $
+          land ! (from ! (stop !)) (init ! 13 refl (LL.lawful R.the-type R′.the-laws 𝓤 H A W .typed reply (u ∷ []) is .0)) $
           returns-within ! Post out (look ! 13 refl) $ forget ! 3 refl $ forget ! 5 refl $ forget ! 7 refl $ forget ! 9 refl $ forget ! 11 refl $ forget ! 13 refl $
           move ! (13 ∷ 14 ∷ []) $ free1 ! $ move ! (11 ∷ 12 ∷ []) $ free1 ! $ move ! (9 ∷ 10 ∷ []) $ free1 ! $ move ! (7 ∷ 8 ∷ []) $ free1 ! $ move ! (5 ∷ 6 ∷ []) $ free1 ! $ move ! (3 ∷ 4 ∷ []) $ free1 ! $ free0 ! $
           by ! (exits reply u e)
@@ -145,13 +145,13 @@ module _ {M : Type 1} (𝓤 : URA M) (H : Heap 𝓤) (A : Atoms 𝓤) (W : Given
           (and-then ! (load ! (from ! (stop !)) (look ! 10 refl)) (and-then ! (load ! (from ! (stop !)) (look ! 8 refl)) (and-then ! (load ! (from ! (stop !)) (look ! 6 refl)) (no-more !)))) (λ reply u e is. leaves y reply u e is out)
 
       -- the body, from the locals as they are when the parameters are stored
-      begins : (known : Known 𝓤 H A mem run C) → Sq W (Free tyBool l₅ (Free (tyInt w64) l₄ (Full (tyInt w32) l₃ (vint w32 k) (Full tyBool l₂ (vbool looking) (Full listTy l₁ s (Free B′.mir l₀ Entry))))))
+      begins : (known : Known 𝓤 H A mem run C) → Sq W (Free tyBool l₅ (Free (tyInt w64) l₄ (Full (tyInt w32) l₃ (vint w32 k) (Full tyBool l₂ (vbool looking) (Full listTy l₁ s (Free R′.mir l₀ Entry))))))
           (runs C Λ En body.t-1 (atRet En Post))
       begins known =
           move ! (13 ∷ []) $ fsplit ! $ move ! (1 ∷ []) $ drop ! $ move ! (0 ∷ 13 ∷ []) $
           assigns ! (of-opd ! (load ! (from ! (fld ! refl (stop !))) (look-in ! 10 (sub ! 1 refl (whole !))))) (from ! (stop !)) (init ! 4 refl (tt, record { fits = g .0 })) $
           assigns ! (bin ! (load ! (from ! (stop !)) (look ! 4 refl)) (lit ! tt) tt) (from ! (stop !)) (init ! 2 refl (tt, tt)) $
-          first ! $ branches ! (load ! (from ! (stop !)) (look ! 2 refl)) (λ h. replies 512 (leb→le n 512 h) (leb n 512) (known .0) refl) (λ _. skips ! $ exec ! C Λ En body.t-4 (atRet En Post) $
+          first ! $ branches ! (load ! (from ! (stop !)) (look ! 2 refl)) (λ h. replies 256 (leb→le n 256 h) (leb n 256) (known .0) refl) (λ _. skips ! $ exec ! C Λ En body.t-4 (atRet En Post) $
           assigns ! (of-opd ! (load ! (from ! (fld ! refl (stop !))) (look-in ! 10 (sub ! 1 refl (whole !))))) (from ! (stop !)) (store ! 4 refl (tt, record { fits = g .0 })) $
           assigns ! (bin ! (load ! (from ! (stop !)) (look ! 4 refl)) (big-lit ! (record { fits = lit< tt })) tt) (from ! (stop !)) (store ! 2 refl (tt, tt)) $
           first ! $ branches ! (load ! (from ! (stop !)) (look ! 2 refl)) (λ h. replies 4096 (leb→le n 4096 h) (leb n 4096) (known .1 .0) refl) (λ many. skips ! $ exec ! C Λ En body.t-7 (atRet En Post) $
@@ -182,7 +182,7 @@ query-long-spec 𝓤 H 𝓜 𝓖 𝓡 =
     entered 𝓤 H (tripleOf 𝓤 H (𝓖 .A) query.signature (query.spec 𝓤 H (𝓖 .A) (𝓜 .mem) (𝓡 .run)))
     (tables 𝓤 H 𝓜 𝓡 code.env .C) (tables 𝓤 H 𝓜 𝓡 code.env .Λ) #prefixes·query-long code.function (code.unfolded 𝓤 H 𝓜 𝓡)
     (query-meets 𝓤 H (𝓖 .A) (givenOf 𝓤 H 𝓜 𝓖) (𝓜 .mem) (𝓡 .run) (tablesOf 𝓤 H 𝓜 (tables 𝓤 H 𝓜 𝓡 code.env)) (
-      cited 𝓤 H (Limited 𝓤 H (𝓖 .A) 512) 𝓜 𝓡 code.env #prefixes·query-512 query-512-def.routine code.calls-prefixes·query-512 (query-512-thm.met 𝓤 H 𝓜 𝓖 𝓡),
+      cited 𝓤 H (Limited 𝓤 H (𝓖 .A) 256) 𝓜 𝓡 code.env #prefixes·query-256 query-256-def.routine code.calls-prefixes·query-256 (query-256-thm.met 𝓤 H 𝓜 𝓖 𝓡),
       (
         cited 𝓤 H (Limited 𝓤 H (𝓖 .A) 4096) 𝓜 𝓡 code.env #prefixes·query-4096 query-4096-def.routine code.calls-prefixes·query-4096 (query-4096-thm.met 𝓤 H 𝓜 𝓖 𝓡),
         cited 𝓤 H (TooMany 𝓤 H (𝓖 .A) (𝓜 .mem) (𝓡 .run)) 𝓜 𝓡 code.env #prefixes·too-many too-many-def.routine code.calls-prefixes·too-many (too-many-thm.met 𝓤 H 𝓜 𝓖 𝓡),
