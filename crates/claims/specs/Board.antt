@@ -46,8 +46,8 @@ found rs q = numbers (listLookup 32 (map (λ r. r .address) rs) (map (λ r. r .l
 abbrev pub prefixOf : Route → Prefix
 prefixOf r = record { address = r .address; length = record { 0 = r .length }; hop = record { 0 = r .hop } }
 
-abbrev pub foundInOne : List Route → ℕ → List ℕ
-foundInOne rs q = numbers (prefixesLookup 32 (map prefixOf rs) q)
+abbrev pub foundInSlice : List Route → ℕ → List ℕ
+foundInSlice rs q = numbers (prefixesLookup 32 (map prefixOf rs) q)
 
 -- the writes of a plan; none where it is refused
 abbrev pub made : Planned → List Write
@@ -101,7 +101,7 @@ got =
     ∷ found setP (ip 10 20 5 0)
     ∷ found setP (ip 255 255 255 255)
     ∷ found withoutDefault (ip 11 0 0 0)
-    ∷ (foundInOne setP (ip 10 20 4 10) ++ foundInOne withoutDefault (ip 11 0 0 0))
+    ∷ (foundInSlice setP (ip 10 20 4 10) ++ foundInSlice withoutDefault (ip 11 0 0 0))
     ∷ counts (replicate 8 free) setP
     ∷ shownSlots eightSlots
     ∷ Plans.numbers (removeWrites eightSlots (ip 10 20 4 0) 24)

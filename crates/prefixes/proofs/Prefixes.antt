@@ -3,6 +3,7 @@ use Prim.Native.Nat.{ℕ, _<_}
 use mathlib.Core.Path.{_≡_, refl, sym, _∙_, ap}
 use mathlib.Core.List.{List, [], _∷_, map}
 use mathlib.Core.Bool.{Bool}
+use borrow.Author.Tests.{lt-leb, eq-eqb}
 use lib.ListN.{length, length-map}
 use Rattle.route.specs.Limits.{maxRoutes}
 use Rattle.route.specs.Rule.{Route, answer}
@@ -10,7 +11,6 @@ use Rattle.route.specs.Refusals.{Verdict, fault, value, refused, unlessFault, s
 use Rattle.route.specs.Lists.{EqualRows, routes, rowsFault}
 use Rattle.route.specs.Shown.{routeOf, counted, shown}
 use Rattle.route.specs.declared.Prefix.{Prefix}
-use borrow.Author.Tests.{lt-leb, eq-eqb}
 use Rattle.prefixes.specs.Prefixes.{addressRow, lengthRow, hopRow}
 use Rattle.prefixes.specs.Queries.{IsReplyOf}
 use Rattle.prefixes.specs.declared.Reply.{Reply}

@@ -15,3 +15,4 @@ pub mod Entries
 -- Steps of a walk by hand.
 pub mod Call
 pub mod PassOn
+pub mod OfValue

@@ -12,40 +12,32 @@ use prog.Memory.{Memory}
 use prog.Routine.{Routine}
 use prog.Wp.{Heap, Calls, Loops, WpFn, Tables}
 use ghost.Atoms.{Atoms}
-use contract.Monad.{Fun}
+use contract.Monad.{Fun, factI}
 use contract.Running.{givenOf, tables, tablesOf}
-use types.Kit.{Given, Item, ‵, raw, ⋆, runs, atRet, Sq, _$_, _∵_, !, qed, by, move, drop, use1, join, fsplit, fjoin, suffices, frame, done}
+use types.Kit.{Given, Item, ‵, runs, atRet, Sq, _$_, _∵_, !, qed, by, move, drop, fsplit}
 use types.Run.{look, init, forget, stop, from, load, and-then, no-more, land, returns, enter, alloc1, alloc0, params1, pass1, pass0, free1, free0}
 use sound.WpLaws.{FmC, fmOf, WpFn-mono}
 use denote.RattleType.{owns}
-use denote.Laws.{Is}
-use denote.Plain.{uint-vals, uint-tells, uint-makes}
 use denote.Builtin.{u32}
 use denote.Ref.{RefT}
-use denote.Signature.{plain}
-use denote.Slice.{ShrSlice, Room, slice-vals, shr-slice-tells}
-use denote.Steps.{owned, nothing}
+use denote.Slice.{ShrSlice, Room}
 use denote.Enum.Laws as EL
 use denote.Struct.Laws as LL
 use denote.Triple.Statement.{Contract, Triple}
 use denote.Triple.Entry.{Vals, onEntry}
 use denote.Triple.Spec.{Meets, tripleOf}
 use denote.Triple.Table.{entered, cited}
-use denote.Triple.Walked.{says, Stays, stay-none, stay-none-slice, walkOf, goes-none, goes-none-slice, Walks, ends-at, walked, walk-meets}
-use denote.Exit.{yes}
 use Rattle.route.specs.Shown.{shown}
-use Rattle.route.specs.declared.Found.{Found}
 use Rattle.route.specs.declared.Prefix.{Prefix}
 use Rattle.route.proofs.Found as F
 use Rattle.route.proofs.Found.Laws as F′
 use Rattle.route.proofs.Prefix as T
-use Rattle.route.proofs.Call.{calls-fact}
-use Rattle.route.proofs.PassOn.{passes}
+use Rattle.route.proofs.OfValue as OfValue
 use Rattle.hawkmortar.specs.Outcomes.{outcome}
-use Rattle.hawkmortar.specs.declared.Outcome.{Outcome}
 use Rattle.prefixes.specs.Prefixes.{prefixesLookup}
 use Rattle.prefixes.proofs.Walk.{Free, Full}
-use Rattle.prefixes.proofs.Listed.{listTy, listed, Owned, Live}
+use Rattle.prefixes.proofs.Listed.{listTy, listed, Live}
+use Rattle.prefixes.proofs.OfList as OfList
 use Rattle.hawkmortar.proofs.Outcome as O
 use Rattle.hawkmortar.proofs.Outcome.Laws as O′
 use Rattle.prefixes.proofs.lookup as lookup
@@ -62,9 +54,6 @@ use Rattle.hawkmortar.proofs.hawkmortar_prefixes_lookup.Statement as st
 use Rattle.hawkmortar.proofs.hawkmortar_prefixes_lookup.Code as code
 use Rattle.hawkmortar.proofs.hawkmortar_prefixes_lookup.Code.Mir as body
 
-abbrev stayed : Stays (export.ended .signature .params) (export.ended .kept)
-stayed = (stay-none-slice (0 ∷ []) tt (plain (λ _. T.the-row)) yes, (stay-none (λ _. u32) yes, tt))
-
 module _ {M : Type 1} (𝓤 : URA M) (H : Heap 𝓤) (A : Atoms 𝓤) (mem : Memory → SProp 𝓤) (run : Routine → Fun 𝓤) where
   -- the contracts that the proof cites
   abbrev Lookup : Contract 𝓤
@@ -77,9 +66,6 @@ module _ {M : Type 1} (𝓤 : URA M) (H : Heap 𝓤) (A : Atoms 𝓤) (W : Given
   abbrev v : Val
   v = listed 𝓤 H A W κ q r
 
-  abbrev Own : Item 𝓤
-  Own = Owned 𝓤 H A W κ q r
-
   abbrev Token : Item 𝓤
   Token = Live 𝓤 H A W κ q r
 
@@ -87,39 +73,18 @@ module _ {M : Type 1} (𝓤 : URA M) (H : Heap 𝓤) (A : Atoms 𝓤) (W : Given
   at = (v ∷ [], (vint w32 k ∷ [], tt))
 
   abbrev Post : Val → SProp 𝓤
-  Post = walkOf 𝓤 H A export.ended stayed (export.clauses 𝓤 H A mem run) .post (((κ, tt), (q, tt), tt, (r, (k, tt)), at), tt)
-
-  exits : (o : Outcome) (u : Val) → o ≡ outcome (prefixesLookup 32 (r .now) k) → ent 𝓤 (⋆ 𝓤 H A (‵ (O.the-row .own o (u ∷ [])) ∷ Token ∷ Own ∷ [])) (Post u)
-  exits o u e =
-      qed W (‵ (O.the-row .own o (u ∷ [])) ∷ Token ∷ Own ∷ []) ∵
-      suffices ! _ (ends-at 𝓤 H A export.ended stayed (export.clauses 𝓤 H A mem run) W (((κ, tt), (q, tt), tt, (r, (k, tt)), at), tt) u o (tt, (tt, tt)) (tt, (tt, tt))) $ says ! e $
-      move ! (1 ∷ []) $ frame ! $ nothing ! $ owned ! u32 (Is u32) (uint-makes 𝓤 H A W w32) k _ (refl, gk) $ fjoin ! $ move ! (2 ∷ 0 ∷ []) $ fjoin ! $ frame ! $ done !
-
-  -- what `lookup` is passed, and asks
-  abbrev to-lookup : Lookup 𝓤 H A mem run .Ghost
-  to-lookup = (((κ, tt), (q, tt), tt, (r, (k, tt)), at), tt)
-
-  asks-lookup : ent 𝓤 (⋆ 𝓤 H A (Own ∷ Token ∷ [])) (Lookup 𝓤 H A mem run .pre to-lookup)
-  asks-lookup = qed W (Own ∷ Token ∷ []) ∵ nothing ! $ owned ! u32 (Is u32) (uint-makes 𝓤 H A W w32) k _ (refl, gk) $ fjoin ! $ move ! (1 ∷ 0 ∷ []) $ fjoin ! $ move ! (1 ∷ 0 ∷ []) $ join ! $ frame ! $ done !
-
-  -- what `of_found` is passed, and asks
-  abbrev to : Found → Val → OfFound 𝓤 H A mem run .Ghost
-  to f u = ((tt, tt, tt, (f, tt), (u ∷ [], tt)), tt)
-
-  asked : (f : Found) (u : Val) → ent 𝓤 (⋆ 𝓤 H A (‵ (F.the-row .own f (u ∷ [])) ∷ [])) (OfFound 𝓤 H A mem run .pre (to f u))
-  asked f u = qed W (‵ (F.the-row .own f (u ∷ [])) ∷ []) ∵ nothing ! $ move ! (1 ∷ 0 ∷ []) $ fjoin ! $ nothing ! $ join ! $ nothing ! $ move ! (1 ∷ 0 ∷ []) $ done !
+  Post = OfList.Post OfList.address O.the-row 𝓤 H A W (export.clauses 𝓤 H A mem run) κ q r (k, tt) tt
 
   module _ (C : Calls 𝓤 H) (Λ : Loops 𝓤 H) (fm : FmC 𝓤 H (W .laws) C) (known-lookup : Triple 𝓤 (C #prefixes·lookup) (Lookup 𝓤 H A mem run)) (known-of-found : Triple 𝓤 (C #hawkmortar·of-found) (OfFound 𝓤 H A mem run)) where
     begins : (l₀ l₁ l₂ l₃ : ℕ) → Sq W (Free F′.mir l₃ (Full (tyInt w32) l₂ (vint w32 k) (Full listTy l₁ v (Free O′.mir l₀ (Token ∷ ‵ (owns (ShrSlice (named 0) κ T.the-row ∷ u32 ∷ []) (r, (k, tt)) at) ∷ []))))) (runs C Λ ((O′.mir, l₀) ∷ (listTy, l₁) ∷ (tyInt w32, l₂) ∷ (F′.mir, l₃) ∷ []) body.t-1 (atRet ((O′.mir, l₀) ∷ (listTy, l₁) ∷ (tyInt w32, l₂) ∷ (F′.mir, l₃) ∷ []) Post))
     begins l₀ l₁ l₂ l₃ =
         move ! (9 ∷ []) $ fsplit ! $ move ! (1 ∷ []) $ drop ! $ move ! (0 ∷ 9 ∷ []) $
-        passes 𝓤 H A W (named 0) κ q T.the-row r lookup.ended (lookup.clauses 𝓤 H A mem run) to-lookup (λ f. shown f ≡ prefixesLookup 32 (r .now) k) (λ f end. id⊢ 𝓤 _) asks-lookup (id⊢ 𝓤 _) ! fm known-lookup (and-then ! (load ! (from ! (stop !)) (look ! 6 refl)) (and-then ! (load ! (from ! (stop !)) (look ! 4 refl)) (no-more !))) (λ f u e is.
+        OfList.asks OfList.address F.the-row 𝓤 H A W (lookup.clauses 𝓤 H A mem run) κ q r (k, tt) tt ((refl, gk), tt) (id⊢ 𝓤 _) (λ f. shown f ≡ prefixesLookup 32 (r .now) k) (λ f end. id⊢ 𝓤 _) ! fm known-lookup (and-then ! (load ! (from ! (stop !)) (look ! 6 refl)) (and-then ! (load ! (from ! (stop !)) (look ! 4 refl)) (no-more !))) (λ f u e is.
         land ! (from ! (stop !)) (init ! 3 refl (EL.lawful F.the-type F′.the-laws 𝓤 H A W tt .typed f (u ∷ []) is .0)) $
-        use1 W (raw (OfFound 𝓤 H A mem run .pre (to f u))) (asked f u) $
-        calls-fact 𝓤 H A W of-found.ended (of-found.clauses 𝓤 H A mem run) (to f u) (λ o. o ≡ outcome (shown f)) (λ o end. id⊢ 𝓤 _) ! fm known-of-found (and-then ! (load ! (from ! (stop !)) (look ! 3 refl)) (no-more !)) (λ o u′ e′ is′.
-        move ! (1 ∷ []) $ drop ! $ land ! (from ! (stop !)) (init ! 9 refl (LL.lawful O.the-type O′.the-laws 𝓤 H A W .typed o (u′ ∷ []) is′ .0)) $
+        OfValue.asks F.the-row O.the-row 𝓤 H A W (of-found.clauses 𝓤 H A mem run) f u tt (id⊢ 𝓤 _) (λ o. o ≡ outcome (shown f)) (λ o end. id⊢ 𝓤 _) ! fm known-of-found (and-then ! (load ! (from ! (stop !)) (look ! 3 refl)) (no-more !)) (λ o u′ e′ is′.
+        land ! (from ! (stop !)) (init ! 9 refl (LL.lawful O.the-type O′.the-laws 𝓤 H A W .typed o (u′ ∷ []) is′ .0)) $
         returns ! (look ! 9 refl) $ forget ! 3 refl $ forget ! 5 refl $ forget ! 7 refl $ forget ! 9 refl $ move ! (9 ∷ 10 ∷ []) $ free1 ! $ move ! (7 ∷ 8 ∷ []) $ free1 ! $ move ! (5 ∷ 6 ∷ []) $ free1 ! $ move ! (3 ∷ 4 ∷ []) $ free1 ! $ free0 ! $
-        by ! (exits o u′ (e′ ∙ ap outcome e))))
+        by ! (OfList.exits OfList.address O.the-row 𝓤 H A W (export.clauses 𝓤 H A mem run) κ q r (k, tt) tt ((refl, gk), tt) o u′ (factI 𝓤 (o ≡ outcome (prefixesLookup 32 (r .now) k)) (emp 𝓤) ((e′ ∙ ap outcome e))))))
 
     walk : Room T.the-row (length (r .now)) → ent 𝓤 (onEntry 𝓤 H A export.signature (κ, tt) (q, tt) (r, (k, tt)) at) (WpFn 𝓤 H C Λ code.function (v ∷ vint w32 k ∷ []) Post)
     walk g =
@@ -127,13 +92,9 @@ module _ {M : Type 1} (𝓤 : URA M) (H : Heap 𝓤) (A : Atoms 𝓤) (W : Given
         alloc1 ! (λ l₀. alloc1 ! (λ l₁. alloc1 ! (λ l₂. alloc1 ! (λ l₃. alloc0 ! $ params1 ! $ pass1 ! (init ! 4 refl (tt, (tt, (record { fits = g .0 }, tt)))) $ pass1 ! (init ! 2 refl (tt, record { fits = gk })) $ pass0 ! $ begins l₀ l₁ l₂ l₃))))
 
 module _ {M : Type 1} (𝓤 : URA M) (H : Heap 𝓤) (A : Atoms 𝓤) (W : Given 𝓤 H A) (mem : Memory → SProp 𝓤) (run : Routine → Fun 𝓤) (𝓣 : Tables 𝓤 H) (known-lookup : Triple 𝓤 (𝓣 .C #prefixes·lookup) (Lookup 𝓤 H A mem run)) (known-of-found : Triple 𝓤 (𝓣 .C #hawkmortar·of-found) (OfFound 𝓤 H A mem run)) where
-  export-walks : Walks 𝓤 H A export.ended stayed (WpFn 𝓤 H (𝓣 .C) (𝓣 .Λ) code.function) (export.clauses 𝓤 H A mem run)
-  export-walks = walked 𝓤 H A export.ended stayed (export.clauses 𝓤 H A mem run) (WpFn 𝓤 H (𝓣 .C) (𝓣 .Λ) code.function) (λ κs. (slice-vals, (uint-vals w32, tt))) (λ κs. (shr-slice-tells (named 0) (κs .0) T.the-row, (uint-tells w32, tt)))
-      (λ κs qs bounds a g are. via 𝓤 _ (fst∗ 𝓤 _ (emp 𝓤)) (walk 𝓤 H A W mem run (κs .0) (qs .0) (a .0) (a .1 .0) (are .1 .0 .1) (𝓣 .C) (𝓣 .Λ) (fmOf 𝓤 H (W .laws) 𝓣) known-lookup known-of-found (are .0 .0 .1)))
-
   export-meets : Meets 𝓤 H A export.signature (WpFn 𝓤 H (𝓣 .C) (𝓣 .Λ) code.function) (export.spec 𝓤 H A mem run)
-  export-meets = walk-meets 𝓤 H A export.ended stayed W (goes-none-slice 𝓤 H A W 1 (0 ∷ []) tt (plain (λ _. T.the-row)) yes, (goes-none 𝓤 H A W 1 (λ _. u32) yes (λ κs x f. refl), tt))
-      (export.clauses 𝓤 H A mem run) (WpFn 𝓤 H (𝓣 .C) (𝓣 .Λ) code.function) (WpFn-mono 𝓤 H (W .laws) 𝓣 code.function) export-walks
+  export-meets = OfList.meets OfList.address O.the-row 𝓤 H A W (export.clauses 𝓤 H A mem run) (WpFn 𝓤 H (𝓣 .C) (𝓣 .Λ) code.function) (WpFn-mono 𝓤 H (W .laws) 𝓣 code.function)
+      (λ κ q r xs g room are. via 𝓤 _ (fst∗ 𝓤 _ (emp 𝓤)) (walk 𝓤 H A W mem run κ q r (xs .0) (are .0 .1) (𝓣 .C) (𝓣 .Λ) (fmOf 𝓤 H (W .laws) 𝓣) known-lookup known-of-found room))
 
 pub hawkmortar-prefixes-lookup-spec : {M : Type 1} → stated.statement M
 unfolding code.routine tablesOf
