@@ -1,17 +1,21 @@
 # report: the report of standard input, or of the board example where that is no file and no pipe
 # test: prove and test everything; the last line says how many passed
+# class: the lesson of docs/CLASS.md, as the library answers it
 # lib: target/staticlib/libhawkmortar.a, for Rust or C to link
 # records: rust/target/release/records, which turns lines into update records and back
-# bench: the proved code beside plain Rust
+# bench: the proved code beside plain Rust, as tables that are printed and put into docs/BENCHMARKS.md
 # fmt: lay out every file
 
-.PHONY: report test lib records bench fmt
+.PHONY: report test class lib records bench fmt
 
 report:
 	@scripts/report
 
 test:
 	@scripts/test
+
+class: lib
+	cd rust && cargo run --offline --release --quiet --example class
 
 lib:
 	rt staticlib hawkmortar

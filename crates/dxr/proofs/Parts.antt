@@ -11,11 +11,12 @@ use lib.Pow.{pow-pos}
 use lib.Seq.{length-take-le, getD-take, getD-drop}
 use Rattle.ranges.specs.Ranges.{Range, range, ranges, startsOf, hopAt}
 use Rattle.ranges.proofs.Rows.{startsSay, takeSays, dropSays}
+use Rattle.ranges.proofs.Counting.{StartsRise}
 use Rattle.dxr.specs.Dxr.{chunkSize, inside, chunk, words, mainWord}
 use Rattle.dxr.specs.Loops.{LastAt, entryFrom, entriesFrom, Splittable}
 use Rattle.dxr.specs.Shown.{IsPart}
 use Rattle.dxr.specs.declared.build.Part.{Part}
-use Rattle.dxr.proofs.Rising.{StartsRise, riseFrom, early, fine-rises}
+use Rattle.dxr.proofs.Rising.{riseFrom, early, fine-rises}
 use Rattle.dxr.proofs.Chunks.{insideNone}
 use Rattle.dxr.proofs.Entries.{entries-length, entries-get, one-words, one-main}
 

@@ -10,11 +10,7 @@ use Rattle.route.specs.Limits.{maxHop}
 use Rattle.route.specs.Refusals.{fine, faultIf, imageRefusal}
 use Rattle.route.proofs.Tests.{orders, byTest, or-parts, inTurn, passed}
 use Rattle.ranges.specs.Ranges.{Range, range, breaks, firstBreaks, rangesFault, tableFault, hopAt}
-
--- starts that rise, from lo on
-abbrev pub StartsRise : ℕ → List Range → Type 0
-StartsRise lo [] = Unit {0}
-StartsRise lo (r ∷ rs) = (lo ≤ r .start) × StartsRise (suc (r .start)) rs
+use Rattle.ranges.proofs.Counting.{StartsRise}
 
 -- no hop over the limit
 abbrev pub SmallHops : List Range → Type 0

@@ -1,21 +1,25 @@
--- The lookup's pass over a part: the entry at each place, and that the entries behind those passed give the whole answer.
+-- The lookup's pass over a part: the entry at each place, what the pass finds of the entries, and that this gives the answer.
 use Prim.Native.Nat.{ℕ, zero, suc, _+_, _-_, _*_, _/_, _%_, _≤_, _<_}
 use mathlib.Core.Path.{_≡_, refl, sym, _∙_, ap}
-use mathlib.Core.Bool.{Bool, true, false, cond}
+use mathlib.Core.Bool.{Bool, true, false, cond, _&&_, and-assoc, and-true}
 use mathlib.Core.List.{List, [], _∷_}
 use native.Mathlib.Omega.{arith}
 use native.Mathlib.Numerals.{add-one}
-use borrow.Author.Tests.{leb-false, eq-eqb, ne-eqb, lt-ltb, le-ltb, le-leb, lt-leb}
+use borrow.Author.Tests.{eqb-true, eq-eqb, ne-eqb, lt-ltb, le-leb, lt-leb}
 use lib.Dec.{eqb, leb, ltb}
-use lib.ListN.{length, getD, take, drop, length-drop, drop-of-length-le}
+use lib.ListN.{length, getD, take, drop, length-drop, drop-of-length-le, List·getD-map}
 use lib.Seq.{drop-cons, getD-take, length-take-le}
 use Rattle.route.specs.Limits.{maxHop}
 use Rattle.route.specs.Refusals.{value, refused, imageRefusal}
-use Rattle.route.proofs.Tests.{orders, byTest}
+use Rattle.route.proofs.Tests.{orders, byTest, and-parts, all-three}
 use Rattle.ranges.specs.Ranges.{Range, range, hopAt}
-use Rattle.dxr.specs.Dxr.{longRange, shortRange, longEntries, shortEntries, decoded, partLength, startsRise}
+use Rattle.ranges.specs.Loops.{below}
+use Rattle.ranges.proofs.Counting.{StartsRise, below-within, hopAt-below}
+use Rattle.dxr.specs.Dxr.{longRange, shortRange, longEntries, shortEntries, decoded, partLength, startsRise, entriesFine}
 use Rattle.dxr.specs.Dxr.{kindIn, countIn, positionIn, isShort, entriesOf}
-use Rattle.dxr.specs.Loops.{halfAt, entryAt, ruled, entriesAnswer, behindFirst, chunkAnswer}
+use Rattle.dxr.specs.Loops.{halfAt, entryAt, entriesAnswer, chunkAnswer}
+use Rattle.dxr.specs.Shown.{passFirst, passNext, IsPassed}
+use Rattle.dxr.specs.declared.lookup.Pass.{Pass}
 
 -- as many entries as words, or twice as many, and where each stands
 longMany : (part : List ℕ) → length (longEntries part) ≡ length part
@@ -60,7 +64,7 @@ module _ (short : Bool) (count : ℕ) (part : List ℕ) (size : length part ≡ 
       within true e = omega arith
       within false e = omega arith
 
-  decoded-get : (i : ℕ) → i < count → getD (decoded short count part) i (range 0 0) ≡ entryAt short part i
+  pub decoded-get : (i : ℕ) → i < count → getD (decoded short count part) i (range 0 0) ≡ entryAt short part i
   decoded-get i l = getD-take count _ i (range 0 0) l ∙ ofForm short
     where
       ofForm : (short : Bool) → getD (cond short (shortEntries part) (longEntries part)) i (range 0 0) ≡ entryAt short part i
@@ -74,43 +78,76 @@ module _ (short : Bool) (count : ℕ) (part : List ℕ) (size : length part ≡ 
       let m : i < length (decoded short count part) = omega (arith, decoded-length) in
       rw (is, add-one, ← decoded-get i l) (drop-cons (decoded short count part) i (range 0 0) m)
 
--- entries behind one that starts above the key do not change the hop
-tooHigh : (size c s h : ℕ) (rs : List Range) (key : ℕ) → key < s → ruled c (startsRise size s rs) h ≡ ruled c (startsRise size s rs) (hopAt h rs key)
-tooHigh size c s h [] key l = refl
-tooHigh size c s h (r ∷ rs) key l = byTest (ltb s (r .start))
-    (λ e. rw (lt-leb (r .start) key (omega orders)))
-    (λ e. rw e)
+-- the places of the two entries in word k of short ones
+pub upper-at : (part : List ℕ) (k : ℕ) → shortRange (getD part k 0 / 65536) ≡ entryAt true part (2 * k)
+upper-at part k =
+    let w : 2 * k / 2 ≡ k = omega arith in
+    let e : 2 * k % 2 ≡ 0 = omega arith in
+    rw (w, e)
 
--- the entries before entry i keep the rules; last is the start just before it, and hop the hop for the key of those passed
-pub record PassedTo (size c : ℕ) (es : List Range) (key first last hop i : ℕ) : Type 0 where
-  pub left : ruled c (startsRise size last (drop i es)) (hopAt hop (drop i es) key) ≡ behindFirst size c first es key
+pub lower-at : (part : List ℕ) (k : ℕ) → shortRange (getD part k 0 % 65536) ≡ entryAt true part (2 * k + 1)
+lower-at part k =
+    let w : (2 * k + 1) / 2 ≡ k = omega arith in
+    let e : (2 * k + 1) % 2 ≡ 1 = omega arith in
+    rw (w, e)
 
-module _ {size c : ℕ} {es : List Range} {key first last hop i : ℕ} (h : PassedTo size c es key first last hop i) where
-  module _ {r : Range} {rest : List Range} (now : drop i es ≡ r ∷ rest) where
-    pub passed-stop : r .start ≤ last → refused imageRefusal c ≡ behindFirst size c first es key
-    passed-stop l = rw (now, le-ltb last (r .start) l) at (h .left)
+-- p is the pass over the entries before entry i: with those from it on it has the rules and the count of all
+pub record PassedTo (size key : ℕ) (es : List Range) (p : Pass) (i : ℕ) : Type 0 where
+  pub rules : (p .fine && startsRise size (p .last) (drop i es)) ≡ entriesFine size es
+  pub many : p .below + below (drop i es) key ≡ below (drop 1 es) key
+  pub few : p .below < i
 
-    passes : last < r .start → r .start < size → {next : ℕ} → next ≡ cond (leb (r .start) key) (r .hop) hop →
-        ruled c (startsRise size (r .start) rest) (hopAt next rest key)
-        ≡ ruled c (startsRise size last (r ∷ rest)) (hopAt hop (r ∷ rest) key)
-    passes l m n = byTest (leb (r .start) key)
-        (λ e. rw (n, e, lt-ltb last (r .start) l, lt-ltb (r .start) size m))
-        (λ e. rw (n, e, lt-ltb last (r .start) l, lt-ltb (r .start) size m) (sym (tooHigh size c (r .start) hop rest key (leb-false (r .start) key e))))
+pub passed-start : (size key : ℕ) {es : List Range} {p : Pass} {r : Range} {rest : List Range} {s : ℕ} →
+    es ≡ r ∷ rest → s ≡ r .start → p ≡ passFirst s → PassedTo size key es p 1
+passed-start size key {r = r} now is first = rw (first, is) (record {
+  rules = rw now (byTest (eqb (r .start) 0) (λ e. rw (eqb-true (r .start) 0 e)) (λ e. rw e));
+  many = omega arith;
+  few = omega arith;
+})
 
-  pub passed-turn : {r : Range} → drop i es ≡ r ∷ drop (i + 1) es → last < r .start → r .start < size →
-      {next : ℕ} → next ≡ cond (leb (r .start) key) (r .hop) hop → PassedTo size c es key first (r .start) next (i + 1)
-  passed-turn now l m n = record { left = passes now l m n ∙ (rw now at (h .left)) }
+module _ {size key : ℕ} {es : List Range} {p : Pass} {i : ℕ} (h : PassedTo size key es p i) where
+  pub passed-turn : {r : Range} {q : Pass} {s : ℕ} → drop i es ≡ r ∷ drop (i + 1) es → s ≡ r .start → s < size →
+      q ≡ passNext p s key → PassedTo size key es q (i + 1)
+  passed-turn {r} now is l next = rw (next, is) (record {
+    rules = rw (and-assoc (p .fine)) (rw (now, lt-ltb (r .start) size (rw is at l), and-true) at (h .rules));
+    many = omega (arith, rw now at (h .many));
+    few = byTest (leb (r .start) key) (λ e. rw e (omega (arith, h .few))) (λ e. rw e (omega (arith, h .few)));
+  })
 
-  pub passed-end : length es ≤ i → value hop ≡ behindFirst size c first es key
-  passed-end l = rw (drop-of-length-le es l) at (h .left)
+  pub passed-end : length es ≤ i → IsPassed size key es p
+  passed-end l =
+      let none = drop-of-length-le es l in
+      record { rules = sym (and-true (p .fine)) ∙ (rw none at (h .rules)); many = omega (arith, rw none at (h .many)) }
 
--- the first entry starts where the chunk does, or the chunk is refused
-module _ (size c : ℕ) {es : List Range} (key : ℕ) {r : Range} {rest : List Range} (now : es ≡ r ∷ rest) where
-  pub first-stop : (r .start ≡ 0 → ⊥) → refused imageRefusal c ≡ entriesAnswer size c es key
-  first-stop n = rw (now, ne-eqb (r .start) 0 n)
+-- starts that are seen to rise do
+rising : (size s : ℕ) (rs : List Range) → startsRise size s rs ≡ true → StartsRise (suc s) rs
+rising size s [] e = tt
+rising size s (r ∷ rs) e =
+    let h = all-three (ltb s (r .start)) _ _ e in
+    (omega orders, rising size (r .start) rs (h .2))
 
-  pub first-rest : r .start ≡ 0 → behindFirst size c (r .hop) es key ≡ entriesAnswer size c es key
-  first-rest e = rw (now, eq-eqb (r .start) 0 e, le-leb (r .start) key (omega arith))
+-- by the rules, the last entry that starts at or below the key is found by how many do
+fineHop : (size key : ℕ) (es : List Range) → entriesFine size es ≡ true → getD es (below (drop 1 es) key) (range 0 0) .hop ≡ hopAt 0 es key
+fineHop size key [] e = refl
+fineHop size key (r ∷ rs) e =
+    let h = and-parts (eqb (r .start) 0) _ e in
+    let z : r .start ≡ 0 = eqb-true (r .start) 0 (h .0) in
+    rw (le-leb (r .start) key (omega arith), hopAt-below (r .hop) 1 rs key (rising size 0 rs (h .1)))
+    (sym (List·getD-map (λ r. r .hop) (r ∷ rs) (below rs key) (range 0 0)))
+
+module _ {size key : ℕ} {es : List Range} {p : Pass} (h : IsPassed size key es p) where
+  -- the entry that has the answer is one of them
+  pub passed-within : 0 < length es → p .below < length es
+  passed-within l = omega (arith, h .many, below-within (drop 1 es) key, length-drop 1 es)
+
+  module _ (c : ℕ) where
+    pub passed-stop : p .fine ≡ false → refused imageRefusal c ≡ entriesAnswer size c es key
+    passed-stop e = rw (sym (h .rules) ∙ e)
+
+    pub passed-hop : p .fine ≡ true → {r : Range} → r ≡ getD es (p .below) (range 0 0) → value (r .hop) ≡ entriesAnswer size c es key
+    passed-hop e is =
+        let fine = sym (h .rules) ∙ e in
+        rw (is, h .many, fine, fineHop size key es fine)
 
 -- a main word: a hop, a kind that there is not, too few entries, a part that is not inside the range words, or a part
 module _ (size c w : ℕ) (ws : List ℕ) (key : ℕ) where

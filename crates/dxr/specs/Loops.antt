@@ -4,13 +4,13 @@ use mathlib.Core.Path.{_≡_}
 use mathlib.Core.Bool.{Bool, true, cond, not}
 use mathlib.Core.List.{List, [], _∷_, map}
 use lib.Dec.{eqb, ltb}
-use lib.ListN.{length, getD, drop}
+use lib.ListN.{length, getD}
 use Rattle.route.specs.Limits.{maxHop}
 use Rattle.route.specs.Refusals.{fine, Answer, value, faultIf, unlessFault, imageRefusal, roomRefusal}
 use Rattle.ranges.specs.Ranges.{Range, range, ranges, tableFault, hopAt}
 use Rattle.ranges.specs.Builds.{outputAfter}
 use Rattle.dxr.specs.Dxr.{tableWords, tableMain}
-use Rattle.dxr.specs.Dxr.{allShort, words, allWords, longRange, shortRange, startsRise, entriesFine, chunkFine, chunkHop}
+use Rattle.dxr.specs.Dxr.{allShort, words, allWords, longRange, shortRange, entriesFine, chunkFine, chunkHop}
 
 -- the half of a word in which entry i stands
 abbrev pub halfAt : ℕ → ℕ → ℕ
@@ -27,10 +27,6 @@ ruled c ok h = unlessFault (faultIf (not ok) imageRefusal c) (value h)
 -- what the entries of chunk c say of a key
 abbrev pub entriesAnswer : ℕ → ℕ → List Range → ℕ → Answer
 entriesAnswer size c es key = ruled c (entriesFine size es) (hopAt 0 es key)
-
--- what those behind the first say, whose hop is h
-abbrev pub behindFirst : ℕ → ℕ → ℕ → List Range → ℕ → Answer
-behindFirst size c h es key = ruled c (startsRise size 0 (drop 1 es)) (hopAt h (drop 1 es) key)
 
 -- what chunk c with this main word says of a key
 abbrev pub chunkAnswer : ℕ → ℕ → ℕ → List ℕ → ℕ → Answer

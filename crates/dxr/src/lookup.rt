@@ -1,16 +1,18 @@
 // The lookup: the chunk's main word is the answer, or points to the part of the range words that is
-// looked through. The part's rules are tested, and the last start at or below the key is found, in
-// one pass over it; no other range word is read.
+// looked through. One pass over the part, which it does not leave early, tests the rules and counts
+// the starts at or below the key. Where starts rise, the entry with that number is the last of them.
+// No other range word is read.
 ghost use mathlib.Core.Path.{_≡_};
-ghost use mathlib.Core.Bool.{cond};
+ghost use mathlib.Core.Bool.{true, false, cond};
 ghost use Prim.Native.Nat.{_+_, _/_, _%_, _≤_, _<_};
 ghost use lib.ListN.{length};
 ghost use Rattle.route.specs.Shown.{shown};
 ghost use Rattle.ranges.specs.Shown.{rangeOf};
-ghost use Rattle.dxr.specs.Dxr.{decoded, partLength, dxrLookup};
-ghost use Rattle.dxr.specs.Loops.{halfAt, entryAt, entriesAnswer, behindFirst, chunkAnswer};
+ghost use Rattle.dxr.specs.Dxr.{shortRange, decoded, partLength, dxrLookup};
+ghost use Rattle.dxr.specs.Loops.{halfAt, entryAt, entriesAnswer, chunkAnswer};
+ghost use Rattle.dxr.specs.Shown.{passFirst, passNext, IsPassed};
 use crate::MAIN_WORDS;
-use ranges::lookup::hop_from;
+use ranges::one_if;
 use ranges::words::Range;
 use route::Found;
 use route::MAX_HOP;
@@ -47,36 +49,104 @@ fn entry_at(part: &[u32], short: bool, i: usize) -> Range
     }
 }
 
-// The entries behind the first, whose hop is given.
-fn look_behind(part: &[u32], short: bool, count: usize, first: u32, key: u32, chunk: usize) -> Found
-    requires { ⌜ (1 ≤ count) × (length (now part) ≡ partLength short count) ⌝ }
-    ensures { λ r. ⌜ shown r ≡ behindFirst 65536 chunk first (decoded short count (now (part .entry))) key ⌝ }
+// What a pass over entries finds: whether they keep the rules, how many behind the first start at or
+// below the key, and the start of the last.
+struct Pass {
+    fine: bool,
+    below: u32,
+    last: u32,
+}
+
+// The pass over the first entry.
+fn pass_first(start: u32) -> Pass
+    ensures { λ r. ⌜ r ≡ passFirst start ⌝ }
 {
-    let mut last = 0;
-    let mut hop = first;
-    let mut i = 1;
-    while i < count {
-        let e = entry_at(part, short, i);
-        if e.start <= last {
-            return Found::Refused(Refusal::Image(chunk));
-        }
-        hop = hop_from(e, key, hop);
-        last = e.start;
-        i += 1;
+    Pass {
+        fine: start == 0,
+        below: 0,
+        last: start,
     }
-    Found::of_number(hop)
+}
+
+// The pass over one entry more.
+fn pass_next(p: Pass, start: u32, key: u32) -> Pass
+    requires { ⌜ p .below < 65536 ⌝ }
+    ensures { λ r. ⌜ r ≡ passNext p start key ⌝ }
+{
+    Pass {
+        fine: p.fine & (p.last < start),
+        below: p.below + one_if(start <= key),
+        last: start,
+    }
+}
+
+// The pass over a part of long entries.
+fn pass_long(part: &[u32], key: u32) -> Pass
+    requires { ⌜ (1 ≤ length (now part)) × (length (now part) < 16384) ⌝ }
+    ensures { λ r. ⌜ IsPassed 65536 key (decoded false (length (now (part .entry))) (now (part .entry))) r ⌝ }
+{
+    let mut p = pass_first(part[0] / 65536);
+    let mut k = 1;
+    while k < part.len() {
+        p = pass_next(p, part[k] / 65536, key);
+        k += 1;
+    }
+    p
+}
+
+// The starts of the short entries in the halves of a word.
+fn upper_start(word: u32) -> u32
+    ensures { λ r. ⌜ (r ≡ shortRange (word / 65536) .start) × (r < 65536) ⌝ }
+{
+    word / 65536 / 256 * 256
+}
+
+fn lower_start(word: u32) -> u32
+    ensures { λ r. ⌜ (r ≡ shortRange (word % 65536) .start) × (r < 65536) ⌝ }
+{
+    word % 65536 / 256 * 256
+}
+
+// The pass over a part of short entries: those of the first word, of the other words that have two,
+// and an odd last one. Where the number is even, the last entry is read again and not used.
+fn pass_short(part: &[u32], count: usize, key: u32) -> Pass
+    requires { ⌜ (2 ≤ count) × (count < 16384) × (length (now part) ≡ partLength true count) ⌝ }
+    ensures { λ r. ⌜ IsPassed 65536 key (decoded true count (now (part .entry))) r ⌝ }
+{
+    let mut p = pass_next(pass_first(upper_start(part[0])), lower_start(part[0]), key);
+    let mut k = 1;
+    while k < count / 2 {
+        let word = part[k];
+        p = pass_next(p, upper_start(word), key);
+        p = pass_next(p, lower_start(word), key);
+        k += 1;
+    }
+    let odd = pass_next(p, entry_at(part, true, count - 1).start, key);
+    if count % 2 == 0 { p } else { odd }
+}
+
+// The pass over a part in the one form or the other.
+fn pass_part(part: &[u32], short: bool, count: usize, key: u32) -> Pass
+    requires { ⌜ (2 ≤ count) × (count < 16384) × (length (now part) ≡ partLength short count) ⌝ }
+    ensures { λ r. ⌜ IsPassed 65536 key (decoded short count (now (part .entry))) r ⌝ }
+{
+    if short {
+        pass_short(part, count, key)
+    } else {
+        pass_long(part, key)
+    }
 }
 
 // The entries of a chunk's part: refusal 7 at the chunk, or the hop for the key.
 fn look_through(part: &[u32], short: bool, count: usize, key: u32, chunk: usize) -> Found
-    requires { ⌜ (1 ≤ count) × (length (now part) ≡ partLength short count) ⌝ }
+    requires { ⌜ (2 ≤ count) × (count < 16384) × (length (now part) ≡ partLength short count) ⌝ }
     ensures { λ r. ⌜ shown r ≡ entriesAnswer 65536 chunk (decoded short count (now (part .entry))) key ⌝ }
 {
-    let first = entry_at(part, short, 0);
-    if first.start != 0 {
+    let p = pass_part(part, short, count, key);
+    if !p.fine {
         return Found::Refused(Refusal::Image(chunk));
     }
-    look_behind(part, short, count, first.hop, key, chunk)
+    Found::of_number(entry_at(part, short, p.below as usize).hop)
 }
 
 // How many range words so many entries take.

@@ -3,6 +3,7 @@ pub mod Spans
 pub mod Boundaries
 pub mod Says
 pub mod Rows
+pub mod Counting
 pub mod MergedRanges
 pub mod RangesAgree
 -- The build: sorting, the sweep over routes in order, words, and that all of it makes the merged ranges.

@@ -32,11 +32,17 @@ ranges-get (s ∷ ss) [] i e = absurd (omega arith)
 ranges-get (s ∷ ss) (h ∷ hs) zero e = refl
 ranges-get (s ∷ ss) (h ∷ hs) (suc i) e = ranges-get ss hs i (omega arith)
 
--- their starts, and a part of both rows
+-- their starts, their hops, and a part of both rows
 pub startsSay : (ss hs : List ℕ) → length ss ≡ length hs → startsOf (ranges ss hs) ≡ ss
 startsSay [] hs e = refl
 startsSay (s ∷ ss) [] e = absurd (omega arith)
 startsSay (s ∷ ss) (h ∷ hs) e = ap (λ l. s ∷ l) (startsSay ss hs (omega arith))
+
+pub hopsSay : (ss hs : List ℕ) → length ss ≡ length hs → hopsOf (ranges ss hs) ≡ hs
+hopsSay [] [] e = refl
+hopsSay [] (h ∷ hs) e = absurd (omega arith)
+hopsSay (s ∷ ss) [] e = absurd (omega arith)
+hopsSay (s ∷ ss) (h ∷ hs) e = ap (λ l. h ∷ l) (hopsSay ss hs (omega arith))
 
 pub takeSays : (n : ℕ) (ss hs : List ℕ) → ranges (take n ss) (take n hs) ≡ take n (ranges ss hs)
 takeSays zero ss hs = refl

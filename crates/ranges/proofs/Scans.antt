@@ -1,56 +1,95 @@
--- The lookup's pass: the ranges before range i keep the rules, and those that are left give the whole answer.
-use Prim.Native.Nat.{ℕ, _+_, _≤_, _<_}
-use mathlib.Core.Path.{_≡_, refl, sym, _∙_}
-use mathlib.Core.Bool.{true, false, cond, not}
+-- The lookup's passes: one over all ranges that tests and counts, and one that stops at the first range that breaks a rule.
+use Prim.Native.Nat.{ℕ, suc, _+_, _≤_, _<_}
+use mathlib.Core.Path.{_≡_, refl, sym, _∙_, ap}
+use mathlib.Core.Bool.{Bool, true, false, cond, not, _||_, or-assoc, or-false}
 use mathlib.Core.List.{List, [], _∷_}
 use native.Mathlib.Omega.{arith}
-use borrow.Author.Tests.{eqb-true, eq-eqb, leb-false, le-leb, lt-leb, not-false}
+use borrow.Author.Tests.{eqb-true, eq-eqb, leb-false, le-leb, not-false}
 use lib.Dec.{leb, eqb}
-use lib.ListN.{length, drop, drop-of-length-le}
-use Rattle.route.specs.Refusals.{fine, Answer, value, refused, unlessFault, imageRefusal}
-use Rattle.route.proofs.Tests.{byTest, or-parts}
-use Rattle.ranges.specs.Ranges.{maxRanges, Range, ranges, breaks, firstBreaks, rangesFault, sizeFault, hopAt, rangeLookup}
-use Rattle.ranges.specs.Loops.{rangeAt}
-use Rattle.ranges.proofs.Rows.{ranges-at}
+use lib.ListN.{length, getD, drop-of-length-le}
+use Rattle.route.specs.Refusals.{fine, fault, value, refused, imageRefusal}
+use Rattle.route.proofs.Tests.{orders, byTest, clash, or-parts}
+use Rattle.ranges.specs.Ranges.{maxRanges, Range, ranges, hopsOf, breaks, firstBreaks, rangesFault, sizeFault, rangeLookup}
+use Rattle.ranges.specs.Loops.{rangeAt, behind, anyBreaks, behindBroken, behindFault, behindAnswer, below}
+use Rattle.ranges.proofs.Rows.{ranges-at, hopsSay}
+use Rattle.ranges.proofs.Counting.{StartsRise, hopAt-below}
 
--- refusal 7, or else the hop, of ranges behind the range p
-abbrev pub answerBehind : ℕ → Range → ℕ → List Range → ℕ → Answer
-answerBehind i p h rs q = unlessFault (rangesFault i p rs) (value (hopAt h rs q))
+-- ranges of which none breaks a rule: there is no fault, and starts rise
+unbroken-fine : (i : ℕ) (p : Range) (rs : List Range) → anyBreaks p rs ≡ false → rangesFault i p rs ≡ fine
+unbroken-fine i p [] e = refl
+unbroken-fine i p (r ∷ rs) e =
+    let b = or-parts (breaks p r) (anyBreaks r rs) e in
+    rw (b .0) (unbroken-fine (i + 1) r rs (b .1))
 
--- ranges behind one that starts above q do not change the hop
-tooHigh : (i : ℕ) (p : Range) (h : ℕ) (rs : List Range) (q : ℕ) → q < p .start → unlessFault (rangesFault i p rs) (value h) ≡ answerBehind i p h rs q
-tooHigh i p h [] q l = refl
-tooHigh i p h (r ∷ rs) q l = byTest (breaks p r)
-    (λ e. rw e)
-    (λ e. let b = leb-false (r .start) (p .start) (or-parts (leb (r .start) (p .start)) _ (or-parts _ _ e .0) .0) in
-    rw (e, lt-leb (r .start) q (omega arith)))
+unbroken-rise : (p : Range) (rs : List Range) → anyBreaks p rs ≡ false → StartsRise (suc (p .start)) rs
+unbroken-rise p [] e = tt
+unbroken-rise p (r ∷ rs) e =
+    let b = or-parts (breaks p r) (anyBreaks r rs) e in
+    let up = leb-false (r .start) (p .start) (or-parts _ _ (or-parts _ _ (b .0) .0) .0) in
+    (omega arith, unbroken-rise r rs (b .1))
 
--- a range that keeps the rules is passed
-passes : (i : ℕ) (p r : Range) (h : ℕ) (rs : List Range) (q : ℕ) → breaks p r ≡ false →
-    answerBehind (i + 1) r (cond (leb (r .start) q) (r .hop) h) rs q ≡ answerBehind i p h (r ∷ rs) q
-passes i p r h rs q e = byTest (leb (r .start) q)
-    (λ t. rw (e, t))
-    (λ t. rw (e, t) (sym (tooHigh (i + 1) r h rs q (leb-false (r .start) q t))))
+-- behind the last range there is none
+behind-none : (ss hs : List ℕ) (i : ℕ) → length ss ≤ i + 1 → behind ss hs i ≡ []
+behind-none ss hs i l = rw (drop-of-length-le ss l)
 
--- the ranges before range i keep the rules; last is the one just before it, and hop the hop for q of those passed
-pub record PassedTo (ss hs : List ℕ) (q : ℕ) (first : Range) (start : ℕ) (last : Range) (hop i : ℕ) : Type 0 where
-  pub within : i ≤ length ss
+-- none of the ranges up to range i breaks a rule, and one behind it does
+pub record Seeking (ss hs : List ℕ) (i : ℕ) : Type 0 where
   pub equal : length ss ≡ length hs
-  pub left : answerBehind i last hop (ranges (drop i ss) (drop i hs)) q ≡ answerBehind 1 first start (ranges (drop 1 ss) (drop 1 hs)) q
+  pub broken : behindBroken ss hs i ≡ true
+  pub left : behindFault ss hs i ≡ behindFault ss hs 0
 
-module _ {ss hs : List ℕ} {q : ℕ} {first : Range} {start : ℕ} {last : Range} {hop i : ℕ} (h : PassedTo ss hs q first start last hop i) where
-  module _ (l : i < length ss) {r : Range} (is : r ≡ rangeAt ss hs i) where
-    pub passed-stop : breaks last r ≡ true → refused imageRefusal i ≡ answerBehind 1 first start (ranges (drop 1 ss) (drop 1 hs)) q
-    passed-stop e = let e′ = rw is at e in rw (ranges-at ss hs i (h .equal) l, e′) at (h .left)
+module _ {ss hs : List ℕ} {i : ℕ} (s : Seeking ss hs i) where
+  pub seeking-more : i + 1 < length ss
+  seeking-more = byTest (leb (length ss) (i + 1))
+      (λ t. clash (s .broken) (rw (behind-none ss hs i (omega orders))))
+      (λ t. omega orders)
 
-    pub passed-turn : breaks last r ≡ false → {next : ℕ} → next ≡ cond (leb (r .start) q) (r .hop) hop → PassedTo ss hs q first start r next (i + 1)
-    passed-turn e n =
-        let rest = ranges (drop (i + 1) ss) (drop (i + 1) hs) in
-        let now : ranges (drop i ss) (drop i hs) ≡ r ∷ rest = rw is (ranges-at ss hs i (h .equal) l) in
-        record { within = omega arith; equal = h .equal; left = rw n (passes i last r hop rest q e ∙ (rw now at (h .left))) }
+  pub seeking-stop : breaks (rangeAt ss hs i) (rangeAt ss hs (i + 1)) ≡ true → behindFault ss hs 0 ≡ fault imageRefusal (i + 1)
+  seeking-stop e = sym (rw (ranges-at ss hs (i + 1) (s .equal) seeking-more, e) at (s .left))
 
-  pub passed-end : length ss ≤ i → value hop ≡ answerBehind 1 first start (ranges (drop 1 ss) (drop 1 hs)) q
-  passed-end l = rw (drop-of-length-le ss l) at (h .left)
+  pub seeking-turn : breaks (rangeAt ss hs i) (rangeAt ss hs (i + 1)) ≡ false → Seeking ss hs (i + 1)
+  seeking-turn e =
+      let next = ranges-at ss hs (i + 1) (s .equal) seeking-more in
+      record { equal = s .equal; broken = rw (next, e) at (s .broken); left = rw (next, e) at (s .left) }
+
+-- of the ranges behind the first, up to range i: whether one breaks a rule, and how many start at or below q
+pub record Tested (ss hs : List ℕ) (q : ℕ) (bad : Bool) (n i : ℕ) : Type 0 where
+  pub equal : length ss ≡ length hs
+  pub within : i < length ss
+  pub few : n ≤ i
+  pub broken : (bad || behindBroken ss hs i) ≡ behindBroken ss hs 0
+  pub counted : n + below (behind ss hs i) q ≡ below (behind ss hs 0) q
+
+module _ {ss hs : List ℕ} {q : ℕ} {bad : Bool} {n i : ℕ} (t : Tested ss hs q bad n i) where
+  pub tested-turn : i + 1 < length ss → {b : Bool} → b ≡ breaks (rangeAt ss hs i) (rangeAt ss hs (i + 1)) →
+      {m : ℕ} → (m ≡ cond (leb (getD ss (i + 1) 0) q) 1 0) × (m ≤ 1) → Tested ss hs q (bad || b) (n + m) (i + 1)
+  tested-turn l {b} e c =
+      let next = ranges-at ss hs (i + 1) (t .equal) l in
+      let count = rw next at (t .counted) in
+      record {
+        equal = t .equal;
+        within = l;
+        few = omega arith;
+        broken = or-assoc bad b (behindBroken ss hs (i + 1)) ∙ (rw e (rw next at (t .broken)));
+        counted = omega arith;
+      }
+
+  module _ (l : length ss ≤ i + 1) where
+    all : bad ≡ behindBroken ss hs 0
+    all = sym (or-false bad) ∙ (rw (behind-none ss hs i l) at (t .broken))
+
+    pub tested-bad : bad ≡ true → behindBroken ss hs 0 ≡ true
+    tested-bad e = sym all ∙ e
+
+    pub tested-good : bad ≡ false → value (getD hs n 0) ≡ behindAnswer ss hs 0 q
+    tested-good e =
+        let p = rangeAt ss hs 0 in
+        let rs = behind ss hs 0 in
+        let none = sym all ∙ e in
+        let n-is : n ≡ below rs q = omega (arith, rw (behind-none ss hs i l) at (t .counted)) in
+        let zero-in : 0 < length ss = omega arith in
+        let row : p .hop ∷ hopsOf rs ≡ hs = ap hopsOf (sym (ranges-at ss hs 0 (t .equal) zero-in)) ∙ hopsSay ss hs (t .equal) in
+        rw (unbroken-fine 1 p rs none, hopAt-below (p .hop) (suc (p .start)) rs q (unbroken-rise p rs none), row, ← n-is)
 
 -- a table of good size: no range, a first range that breaks a rule, and one that does not
 module _ (ss hs : List ℕ) (q : ℕ) (e : length ss ≡ length hs) (few : length ss ≤ maxRanges) where
@@ -64,14 +103,14 @@ module _ (ss hs : List ℕ) (q : ℕ) (e : length ss ≡ length hs) (few : lengt
       none [] z = refl
       none (s ∷ ss) z = absurd (omega arith)
 
-  module _ (l : 0 < length ss) {r : Range} (is : r ≡ rangeAt ss hs 0) where
-    whole : ranges ss hs ≡ r ∷ ranges (drop 1 ss) (drop 1 hs)
-    whole = rw is (ranges-at ss hs 0 e l)
+  module _ (l : 0 < length ss) where
+    whole : ranges ss hs ≡ rangeAt ss hs 0 ∷ behind ss hs 0
+    whole = ranges-at ss hs 0 e l
 
-    pub lookup-first : firstBreaks r ≡ true → refused imageRefusal 0 ≡ rangeLookup ss hs q
+    pub lookup-first : firstBreaks (rangeAt ss hs 0) ≡ true → refused imageRefusal 0 ≡ rangeLookup ss hs q
     lookup-first b = rw sized (rw (whole, b))
 
-    pub lookup-rest : firstBreaks r ≡ false → answerBehind 1 r (r .hop) (ranges (drop 1 ss) (drop 1 hs)) q ≡ rangeLookup ss hs q
+    pub lookup-rest : firstBreaks (rangeAt ss hs 0) ≡ false → behindAnswer ss hs 0 q ≡ rangeLookup ss hs q
     lookup-rest b =
-        let z = eqb-true (r .start) 0 (not-false _ (or-parts (not (eqb (r .start) 0)) _ b .0)) in
-        rw sized (rw (whole, b, le-leb (r .start) q (omega arith)))
+        let z = eqb-true (getD ss 0 0) 0 (not-false _ (or-parts (not (eqb (getD ss 0 0) 0)) _ b .0)) in
+        rw sized (rw (whole, b, le-leb (getD ss 0 0) q (omega arith)))

@@ -1,31 +1,21 @@
-// The lookup in lent ranges: their rules are tested, and the last range that starts at or below the
-// address is found, in one pass.
+// The lookup in lent ranges: one pass over the rows, without an exit, tests the rules behind the first
+// range and counts the starts at or below the address. Starts rise, so the range that is sought stands
+// so many places behind the first. Where a rule is broken, a pass range by range finds the place.
 ghost use mathlib.Core.Path.{_≡_};
-ghost use Prim.Native.Nat.{_<_};
-ghost use mathlib.Core.Bool.{cond};
-ghost use lib.Dec.{leb};
-ghost use lib.ListN.{length, drop};
-ghost use Rattle.route.specs.Refusals.{value, unlessFault};
+ghost use Prim.Native.Nat.{_+_, _≤_, _<_};
+ghost use mathlib.Core.Bool.{true};
+ghost use lib.ListN.{length};
+ghost use Rattle.route.specs.Refusals.{fault, imageRefusal};
 ghost use Rattle.route.specs.Shown.{shown};
-ghost use Rattle.ranges.specs.Ranges.{ranges, breaks, firstBreaks, rangesFault, hopAt, rangeLookup};
+ghost use Rattle.ranges.specs.Ranges.{maxRanges, breaks, firstBreaks, rangeLookup};
 ghost use Rattle.ranges.specs.Shown.{rangeOf};
-ghost use Rattle.ranges.specs.Loops.{rangeAt};
+ghost use Rattle.ranges.specs.Loops.{rangeAt, behindBroken, behindFault, behindAnswer};
 use crate::MAX_RANGES;
+use crate::one_if;
 use crate::words::Range;
 use route::Found;
 use route::MAX_HOP;
 use route::Refusal;
-
-// Range i of the rows.
-fn range_at(starts: &[u32], range_hops: &[u32], i: usize) -> Range
-    requires { ⌜ (length (now starts) ≡ length (now «range_hops»)) × (i < length (now starts)) ⌝ }
-    ensures { λ r. ⌜ rangeOf r ≡ rangeAt (now (starts .entry)) (now («range_hops» .entry)) i ⌝ }
-{
-    Range {
-        start: starts[i],
-        hop: range_hops[i],
-    }
-}
 
 // Whether the first range of a table breaks a rule.
 fn first_breaks(r: Range) -> bool
@@ -34,38 +24,45 @@ fn first_breaks(r: Range) -> bool
     !(r.start == 0) | (MAX_HOP < r.hop)
 }
 
-// Whether a range breaks a rule behind the range p.
-fn breaks_behind(p: Range, r: Range) -> bool
-    ensures { λ b. ⌜ b ≡ breaks (rangeOf p) (rangeOf r) ⌝ }
+// Whether the range behind range i breaks a rule.
+fn breaks_behind(starts: &[u32], range_hops: &[u32], i: usize) -> bool
+    requires { ⌜ (length (now starts) ≡ length (now «range_hops»)) × (i + 1 < length (now starts)) ⌝ }
+    ensures { λ b. ⌜ b ≡ breaks (rangeAt (now (starts .entry)) (now («range_hops» .entry)) i) (rangeAt (now (starts .entry)) (now («range_hops» .entry)) (i + 1)) ⌝ }
 {
-    (r.start <= p.start) | (r.hop == p.hop) | (MAX_HOP < r.hop)
+    (starts[i + 1] <= starts[i])
+        | (range_hops[i + 1] == range_hops[i])
+        | (MAX_HOP < range_hops[i + 1])
 }
 
-// The hop for q, of the range if it starts at or below q, of those before it otherwise.
-pub fn hop_from(r: Range, q: u32, before: u32) -> u32
-    ensures { λ h. ⌜ h ≡ cond (leb (r .start) q) (r .hop) before ⌝ }
+// The place of the first range that breaks a rule behind the one before it, where one does.
+fn find_break(starts: &[u32], range_hops: &[u32]) -> usize
+    requires { ⌜ (length (now starts) ≡ length (now «range_hops»)) × (behindBroken (now starts) (now «range_hops») 0 ≡ true) ⌝ }
+    ensures { λ i. ⌜ behindFault (now (starts .entry)) (now («range_hops» .entry)) 0 ≡ fault imageRefusal i ⌝ }
 {
-    if r.start <= q { r.hop } else { before }
-}
-
-// The ranges behind the first.
-fn look_behind(starts: &[u32], range_hops: &[u32], first: Range, q: u32) -> Found
-    requires { ⌜ (length (now starts) ≡ length (now «range_hops»)) × (0 < length (now starts)) ⌝ }
-    ensures { λ r. ⌜ shown r ≡ unlessFault (rangesFault 1 (rangeOf first) (ranges (drop 1 (now (starts .entry))) (drop 1 (now («range_hops» .entry))))) (value (hopAt (first .hop) (ranges (drop 1 (now (starts .entry))) (drop 1 (now («range_hops» .entry)))) q)) ⌝ }
-{
-    let mut last = first;
-    let mut hop = first.hop;
-    let mut i = 1;
-    while i < starts.len() {
-        let r = range_at(starts, range_hops, i);
-        if breaks_behind(last, r) {
-            return Found::Refused(Refusal::Image(i));
-        }
-        hop = hop_from(r, q, hop);
-        last = r;
+    let mut i = 0;
+    while !breaks_behind(starts, range_hops, i) {
         i += 1;
     }
-    Found::of_number(hop)
+    i + 1
+}
+
+// The ranges behind the first: each is tested, and those that start at or below q are counted.
+fn look_behind(starts: &[u32], range_hops: &[u32], q: u32) -> Found
+    requires { ⌜ (length (now starts) ≡ length (now «range_hops»)) × (0 < length (now starts)) × (length (now starts) ≤ maxRanges) ⌝ }
+    ensures { λ r. ⌜ shown r ≡ behindAnswer (now (starts .entry)) (now («range_hops» .entry)) 0 q ⌝ }
+{
+    let mut bad = false;
+    let mut below: u32 = 0;
+    let mut i = 0;
+    while i + 1 < starts.len() {
+        bad = bad | breaks_behind(starts, range_hops, i);
+        below += one_if(starts[i + 1] <= q);
+        i += 1;
+    }
+    if bad {
+        return Found::Refused(Refusal::Image(find_break(starts, range_hops)));
+    }
+    Found::of_number(range_hops[below as usize])
 }
 
 // Looks q up in a range table: refusal 8 or 7, else the hop of the last range that starts at or
@@ -83,9 +80,12 @@ pub fn lookup(starts: &[u32], range_hops: &[u32], q: u32) -> Found
     if n == 0 {
         return Found::Refused(Refusal::Image(0));
     }
-    let first = range_at(starts, range_hops, 0);
+    let first = Range {
+        start: starts[0],
+        hop: range_hops[0],
+    };
     if first_breaks(first) {
         return Found::Refused(Refusal::Image(0));
     }
-    look_behind(starts, range_hops, first, q)
+    look_behind(starts, range_hops, q)
 }

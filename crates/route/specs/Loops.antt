@@ -1,7 +1,9 @@
 -- What the contracts of leaves and of loops speak of. The contracts of the list's test and lookup cite none of it.
-use Prim.Native.Nat.{ℕ, zero, suc, _<_}
+use Prim.Native.Nat.{ℕ, zero, suc, _+_, _<_}
 use mathlib.Core.Path.{_≡_}
+use mathlib.Core.Bool.{Bool}
 use mathlib.Core.List.{List, [], _∷_}
+use lib.Dec.{eqb}
 use lib.ListN.{getD}
 use Rattle.route.specs.Rule.{Route, route, span, Match, nothing, best}
 use Rattle.route.specs.Shown.{routeOf}
@@ -17,6 +19,15 @@ pub record IsSpan (W n s : ℕ) : Type 0 where
 abbrev pub before : {A : Type 0} → (ℕ → A) → ℕ → List A
 before at zero = []
 before at (suc i) = at i ∷ before at i
+
+-- what stands at k places of a row from place i on, the last first
+abbrev pub placesFrom : {A : Type 0} → (ℕ → A) → ℕ → ℕ → List A
+placesFrom at i zero = []
+placesFrom at i (suc k) = at (i + k) ∷ placesFrom at i k
+
+-- one address, whatever the length
+abbrev pub sameAddress : Route → Route → Bool
+sameAddress r s = eqb (r .address) (s .address)
 
 -- entry i of a list
 abbrev pub routeAt : List ℕ → List ℕ → List ℕ → ℕ → Route

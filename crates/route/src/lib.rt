@@ -10,6 +10,7 @@ pub mod list;
 pub mod rule;
 
 ghost use mathlib.Core.Path.{_≡_};
+ghost use Prim.Native.Nat.{min};
 ghost use Rattle.route.specs.Refusals.{_then_, value};
 ghost use Rattle.route.specs.Shown.{number, place, verdictOf, shown};
 
@@ -141,4 +142,11 @@ impl Refusal {
             Refusal::Kind(p) => p,
         }
     }
+}
+
+// The lesser of two numbers.
+pub fn lesser(m: usize, n: usize) -> usize
+    ensures { λ r. ⌜ r ≡ min m n ⌝ }
+{
+    if m < n { m } else { n }
 }

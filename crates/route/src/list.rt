@@ -1,15 +1,18 @@
 // The plain answer over a lent list: rows of addresses, lengths and hops, in any order.
 //
 // A list is tested whole before it answers: its size, then entry by entry the entry's own numbers
-// and whether an earlier entry has its prefix. The longest match is found from the list's end.
+// and whether an earlier entry has its prefix. Earlier entries are compared block by block: a loop over
+// a block has no exit, so that several entries are compared at once. The longest match is found from
+// the list's end.
 ghost use mathlib.Core.Path.{_≡_};
-ghost use Prim.Native.Nat.{_<_};
+ghost use mathlib.Core.Bool.{false};
+ghost use Prim.Native.Nat.{_-_, _≤_, _<_};
 ghost use mathlib.Core.List.{[]};
 ghost use lib.ListN.{length};
-ghost use Rattle.route.specs.Rule.{route, improved, longest};
-ghost use Rattle.route.specs.Lists.{routes, samePrefix, listFault, listCheck, listLookup, EqualRows};
+ghost use Rattle.route.specs.Rule.{improved, longest};
+ghost use Rattle.route.specs.Lists.{routes, samePrefix, any, hasPrefix, listFault, listCheck, listLookup, EqualRows};
 ghost use Rattle.route.specs.Shown.{routeOf, verdictOf, counted, shown};
-ghost use Rattle.route.specs.Loops.{routeAt, matchOf};
+ghost use Rattle.route.specs.Loops.{before, placesFrom, sameAddress, routeAt, matchOf};
 use crate::Check;
 use crate::Counted;
 use crate::Found;
@@ -18,7 +21,11 @@ use crate::Length;
 use crate::MAX_ROUTES;
 use crate::Prefix;
 use crate::Refusal;
+use crate::lesser;
 use crate::rule;
+
+// How many earlier entries are compared before the test looks whether one was found.
+const BLOCK: usize = 64;
 
 // The longest match so far.
 enum Best {
@@ -76,11 +83,80 @@ fn entry_at(addresses: &[u32], lengths: &[u32], hops: &[u32], i: usize) -> Prefi
     }
 }
 
-// Whether the prefix is address/length.
-fn has_prefix(p: Prefix, address: u32, length: Length) -> bool
-    ensures { λ r. ⌜ r ≡ samePrefix (routeOf p) (route address (length .0) 0) ⌝ }
+// Whether two entries have one address.
+fn has_address(p: Prefix, o: Prefix) -> bool
+    ensures { λ r. ⌜ r ≡ sameAddress (routeOf p) (routeOf o) ⌝ }
 {
-    (p.address == address) & (p.length.0 == length.0)
+    p.address == o.address
+}
+
+// Whether two entries have one prefix.
+fn has_prefix(p: Prefix, o: Prefix) -> bool
+    ensures { λ r. ⌜ r ≡ samePrefix (routeOf p) (routeOf o) ⌝ }
+{
+    (p.address == o.address) & (p.length.0 == o.length.0)
+}
+
+// Whether one of the entries from entry `from` up to entry `to` has the address of p.
+fn address_among(
+    addresses: &[u32],
+    lengths: &[u32],
+    hops: &[u32],
+    from: usize,
+    to: usize,
+    p: Prefix,
+) -> bool
+    requires { ⌜ EqualRows (now addresses) (now lengths) (now hops) × (from ≤ to) × (to ≤ length (now addresses)) ⌝ }
+    ensures { λ r. ⌜ r ≡ any (sameAddress (routeOf p)) (placesFrom (routeAt (now (addresses .entry)) (now (lengths .entry)) (now (hops .entry))) from (to - from)) ⌝ }
+{
+    let mut found = false;
+    let mut j = from;
+    while j < to {
+        found = has_address(p, entry_at(addresses, lengths, hops, j)) | found;
+        j += 1;
+    }
+    found
+}
+
+// Whether an entry before entry `to` has the prefix of p, where none before entry `from` does.
+fn prefix_among(
+    addresses: &[u32],
+    lengths: &[u32],
+    hops: &[u32],
+    from: usize,
+    to: usize,
+    p: Prefix,
+) -> bool
+    requires { ⌜ EqualRows (now addresses) (now lengths) (now hops) × (from ≤ to) × (to ≤ length (now addresses)) ⌝ }
+    requires { ⌜ hasPrefix (routeOf p) (before (routeAt (now addresses) (now lengths) (now hops)) from) ≡ false ⌝ }
+    ensures { λ r. ⌜ r ≡ hasPrefix (routeOf p) (before (routeAt (now (addresses .entry)) (now (lengths .entry)) (now (hops .entry))) to) ⌝ }
+{
+    let mut found = false;
+    let mut j = from;
+    while j < to {
+        found = has_prefix(p, entry_at(addresses, lengths, hops, j)) | found;
+        j += 1;
+    }
+    found
+}
+
+// As `prefix_among`, by the row of addresses alone where no entry of the block has the address of p.
+fn stands_among(
+    addresses: &[u32],
+    lengths: &[u32],
+    hops: &[u32],
+    from: usize,
+    to: usize,
+    p: Prefix,
+) -> bool
+    requires { ⌜ EqualRows (now addresses) (now lengths) (now hops) × (from ≤ to) × (to ≤ length (now addresses)) ⌝ }
+    requires { ⌜ hasPrefix (routeOf p) (before (routeAt (now addresses) (now lengths) (now hops)) from) ≡ false ⌝ }
+    ensures { λ r. ⌜ r ≡ hasPrefix (routeOf p) (before (routeAt (now (addresses .entry)) (now (lengths .entry)) (now (hops .entry))) to) ⌝ }
+{
+    if address_among(addresses, lengths, hops, from, to, p) {
+        return prefix_among(addresses, lengths, hops, from, to, p);
+    }
+    false
 }
 
 // Entry by entry the refusals 1 to 4.
@@ -97,10 +173,11 @@ fn entries_check(addresses: &[u32], lengths: &[u32], hops: &[u32]) -> Check
         }
         let mut j = 0;
         while j < i {
-            if has_prefix(p, addresses[j], Length(lengths[j])) {
+            let to = lesser(j + BLOCK, i);
+            if stands_among(addresses, lengths, hops, j, to, p) {
                 break 'entries;
             }
-            j += 1;
+            j = to;
         }
         i += 1;
     }

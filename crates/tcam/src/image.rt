@@ -5,7 +5,7 @@
 // before it, and only where it breaks none of the other rules.
 ghost use mathlib.Core.Path.{_≡_};
 ghost use mathlib.Core.Bool.{false};
-ghost use Prim.Native.Nat.{_≤_, _<_, min};
+ghost use Prim.Native.Nat.{_≤_, _<_};
 ghost use mathlib.Core.List.{[]};
 ghost use lib.ListN.{length};
 ghost use Rattle.route.specs.Lists.{any};
@@ -22,6 +22,7 @@ use route::Counted;
 use route::Length;
 use route::Refusal;
 use route::Slot;
+use route::lesser;
 
 // How many slots S5 compares before it looks whether one was found.
 const BLOCK: usize = 64;
@@ -135,12 +136,6 @@ fn image_check(addresses: &[u32], tags: &[u32]) -> Check
         i += 1;
     }
     Check::Fine
-}
-
-fn lesser(m: usize, n: usize) -> usize
-    ensures { λ r. ⌜ r ≡ min m n ⌝ }
-{
-    if m < n { m } else { n }
 }
 
 // How many slots are used. The longer of two rows of unequal length has no slots past the shorter.

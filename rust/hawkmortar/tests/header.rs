@@ -1,6 +1,8 @@
-//! The C header declares what the library has: a C program over it compiles without a warning, links and answers.
+//! The C header declares what the library has: C programs over it compile without a warning, link and answer. The programs that README
+//! shows are examples, and run.
 
 use std::env;
+use std::fs;
 use std::path::{Path, PathBuf};
 use std::process::Command;
 
@@ -76,18 +78,18 @@ const RECORDS: &str = "\
 0 8 0a000000 0
 ";
 
-#[test]
-fn a_c_program_over_the_header_answers_the_board() {
+/// What a C program of examples/ prints: it compiles without a warning, links and ends well.
+fn printed_by(example: &str) -> String {
     let here = Path::new(env!("CARGO_MANIFEST_DIR"));
     let archive = match env::var_os("HAWKMORTAR_LIB_DIR") {
         Some(folder) => PathBuf::from(folder),
         None => here.join("../../target/staticlib"),
     };
-    let program = Path::new(env!("CARGO_TARGET_TMPDIR")).join("board");
+    let program = Path::new(env!("CARGO_TARGET_TMPDIR")).join(example);
     let compiled = Command::new(env::var_os("CC").unwrap_or("cc".into()))
         .args(["-std=c99", "-Wall", "-Wextra", "-Wpedantic", "-Werror", "-I"])
         .arg(here.join("../../include"))
-        .arg(here.join("examples/board.c"))
+        .arg(here.join("examples").join(example).with_extension("c"))
         .arg(archive.join("libhawkmortar.a"))
         .arg("-o")
         .arg(&program)
@@ -100,6 +102,11 @@ fn a_c_program_over_the_header_answers_the_board() {
     );
     let ran = Command::new(&program).output().expect("the program runs");
     assert!(ran.status.success());
+    String::from_utf8(ran.stdout).expect("text")
+}
+
+#[test]
+fn a_c_program_over_the_header_answers_the_board() {
     let answers = "0 2\n0 3\n0 2\n0 7\n";
     let twice = "4 1\n";
     let prefixes = format!("0 5\n{answers}0 0\n4 3\n1 2\n3 0\n0 0\n");
@@ -111,7 +118,38 @@ fn a_c_program_over_the_header_answers_the_board() {
     let answers_without_32 = "0 3\n0 3\n0 2\n0 7\n";
     let dxr = format!("{CHUNK}{answers}{CHUNK_WITHOUT_32}{answers_without_32}");
     assert_eq!(
-        String::from_utf8_lossy(&ran.stdout),
+        printed_by("board"),
         format!("{answers}{twice}{prefixes}{slots}{ranges}{dxr}{RECORDS}")
     );
+}
+
+/// The blocks of README in a language.
+fn readme_blocks(language: &str) -> Vec<String> {
+    let readme = Path::new(env!("CARGO_MANIFEST_DIR")).join("../../README.md");
+    let readme = fs::read_to_string(readme).expect("README.md");
+    let start = format!("```{language}\n");
+    let blocks = readme.split(&start).skip(1);
+    blocks
+        .map(|rest| rest.split("```").next().unwrap().to_string())
+        .collect()
+}
+
+mod update {
+    include!("../examples/update.rs");
+
+    pub fn run() -> Result<(), Refusal> {
+        main()
+    }
+}
+
+#[test]
+fn the_readmes_rust_program_runs() {
+    assert_eq!(readme_blocks("rust"), [include_str!("../examples/update.rs")]);
+    update::run().unwrap();
+}
+
+#[test]
+fn the_readmes_c_program_runs() {
+    assert_eq!(readme_blocks("c"), [include_str!("../examples/update.c")]);
+    assert_eq!(printed_by("update"), "10.20.4.9: hop 2\n11.0.0.0: hop 0\n");
 }

@@ -33,7 +33,7 @@ look-through-requires : tie.Need-look-through-requires
 look-through-requires c κs =
     let p = c .before .before in
     let a = p .before .before .before .before .before .before .args in
-    (search needs, part-size (a .words .now) _ _ (p .part-length .ensures .0) (search needs))
+    (search needs, search needs, part-size (a .words .now) _ _ (p .part-length .ensures .0) (search needs))
 
 returns-6 : tie.Need-returns-6
 returns-6 c =

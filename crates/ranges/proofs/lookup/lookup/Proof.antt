@@ -14,19 +14,19 @@ returns-3 c =
 returns-4 : tie.Need-returns-4
 returns-4 c =
     let f = c .before in
-    let a = f .before .before .before .before .before .before .before .args in
-    lookup-first (a .starts .now) (a .range-hops .now) (a .q) (search needs) (search needs) (search needs) (f .before .range-at .ensures) (sym (f .first-breaks .ensures) ∙ c .if4 .taken)
+    let a = f .before .before .before .before .before .before .before .before .args in
+    lookup-first (a .starts .now) (a .range-hops .now) (a .q) (search needs) (search needs) (search needs) (sym (f .first-breaks .ensures) ∙ c .if4 .taken)
 
 returns-5 : tie.Need-returns-5
 returns-5 c =
     let f = c .before .before in
-    let a = f .before .before .before .before .before .before .before .args in
+    let a = f .before .before .before .before .before .before .before .before .args in
     c .look-behind .ensures
-    ∙ lookup-rest (a .starts .now) (a .range-hops .now) (a .q) (search needs) (search needs) (search needs) (f .before .range-at .ensures) (sym (f .first-breaks .ensures) ∙ c .before .if4 .left)
+    ∙ lookup-rest (a .starts .now) (a .range-hops .now) (a .q) (search needs) (search needs) (search needs) (sym (f .first-breaks .ensures) ∙ c .before .if4 .left)
 
 pub lookup-spec : {M : Type 1} → statement M
 lookup-spec =
     tie.close
     (tie.spec
-    (λ c. search tests) (λ c. search tests) returns-3 (λ c κs. search needs) (λ c κs. search needs) returns-4
-    (λ c κs. search needs) returns-5)
+    (λ c. search tests) (λ c. search tests) returns-3 (λ c. search needs) (λ c. search needs) (λ c κs. search needs)
+    returns-4 (λ c κs. search needs) returns-5)

@@ -9,7 +9,7 @@ use Rattle.route.specs.Lists.{samePrefix}
 use Rattle.route.specs.Shown.{routeOf, verdictOf}
 use Rattle.route.specs.Loops.{routeAt}
 use Rattle.route.proofs.Entries.{CheckedBefore, checked-fault, checked-twice, checked-turn, checked-end}
-use Rattle.route.proofs.Searches.{NoneBefore, none-turn, none-end, none-hit}
+use Rattle.route.proofs.Searches.{NoneBefore, none-end, block-hit, block-turn}
 use Rattle.route.proofs.list.entries_check.Statement.{statement}
 use Rattle.route.proofs.list.entries_check.Tie as tie
 
@@ -37,10 +37,13 @@ returns c =
 loop-holds : tie.Need-loop-holds Inv-loop μ-loop Inv-entries μ-entries
 loop-holds c = record { within = search needs; none = refl }
 
+stands-among-requires : tie.Need-stands-among-requires Inv-loop μ-loop Inv-entries μ-entries
+stands-among-requires c κs = ((search needs, search needs, search needs), c .before .before .loop .inv .none)
+
 loop-again : tie.Need-loop-again Inv-loop μ-loop Inv-entries μ-entries
 loop-again c =
-    none-turn (c .before .before .before .before .before .loop .inv) (search needs)
-    (sym (c .before .has-prefix .ensures) ∙ c .if1 .left)
+    let b = c .before in
+    block-turn (b .before .before .before .loop .inv) (b .before .lesser .result) (search needs) (b .stands-among .ensures) (c .if1 .left)
 
 entries-again : tie.Need-entries-again Inv-loop μ-loop Inv-entries μ-entries
 entries-again c =
@@ -58,7 +61,7 @@ returns-2 c =
     (λ w.
     checked-twice (c .before .before .entries .inv) (search needs) (w .1 .ensures)
     (sym (ap verdictOf (w .4 .given .1)) ∙ w .2 .ensures)
-    (none-hit (w .5 .inv) (search needs) (sym (w .9 .ensures) ∙ w .10 .taken)))
+    (block-hit (w .5 .inv) (w .7 .result) (search needs) (w .8 .ensures) (w .9 .taken)))
     (c .before .entries-test .came)
 
 returns-3 : tie.Need-returns-3 Inv-loop μ-loop Inv-entries μ-entries
@@ -69,6 +72,6 @@ entries-check-spec =
     tie.close
     (tie.spec
     Inv-loop μ-loop Inv-entries μ-entries entries-holds (λ c κs. search needs) (λ c κs. search needs)
-    (λ c. search needs) returns (λ c. search needs) loop-holds (λ c. search needs) (λ c. search needs)
-    (λ c. search needs) (λ c. search needs) (λ c κs. search needs) (λ c. search needs) (λ c. search needs)
-    loop-again (λ c. search needs) (λ c. search needs) entries-again returns-2 returns-3)
+    (λ c. search needs) returns (λ c. search needs) loop-holds (λ c. search needs) (λ c κs. search needs)
+    stands-among-requires (λ c. search needs) loop-again (λ c. search needs) (λ c. search needs) entries-again
+    returns-2 returns-3)

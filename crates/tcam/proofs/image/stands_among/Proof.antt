@@ -1,7 +1,7 @@
 -- `found` says whether a slot before slot j holds the prefix. The measure is what is left up to the block's end.
 use borrow.Author.Needs.{needs}
 use Prim.Native.Nat.{_-_}
-use mathlib.Core.Path.{sym, _∙_, ap}
+use mathlib.Core.Path.{sym}
 use Rattle.tcam.specs.Slots.{samePrefixIn}
 use Rattle.tcam.specs.Shown.{cellOf}
 use Rattle.tcam.specs.Loops.{cellAt}
@@ -20,7 +20,7 @@ loop-holds c = record { within = search needs; is = sym (c .before .before .pre 
 
 loop-again : tie.Need-loop-again Inv-loop μ-loop
 loop-again c =
-    found-turn (c .before .before .before .loop .inv) (search needs) (c .stands-in .ensures ∙ ap (samePrefixIn _) (c .before .cell-at .ensures))
+    found-turn (c .before .before .before .loop .inv) (search needs) (c .before .cell-at .ensures) (c .stands-in .ensures)
 
 returns : tie.Need-returns Inv-loop μ-loop
 returns c = found-end (c .before .loop .inv) (search needs)

@@ -1,0 +1,156 @@
+//! Slots: lookup, the image test, plans and apply.
+
+use super::number;
+use crate::measure::{Measure, Operation};
+use bench::plain;
+use std::hint::black_box;
+
+pub fn all(measure: &mut dyn Measure) {
+    for (slots, calls) in [(64, 20_000), (1024, 1000), (4096, 250)] {
+        lookup(measure, slots, calls);
+    }
+    for (slots, calls) in [(64, 2000), (1024, 20), (4096, 1)] {
+        check(measure, slots, calls);
+        plan_set(measure, slots, calls);
+        plan_remove(measure, slots, calls);
+    }
+    for slots in [64, 1024, 4096] {
+        apply(measure, slots, 20_000);
+    }
+}
+
+fn operation(name: &str, slots: u32, calls: u32) -> Operation {
+    Operation::new(name, format!("{slots} slots"), calls).asked(1.15)
+}
+
+/// Rows of so many slots, seven of eight used, by entries of every length from 32 to 8.
+fn rows(slots: u32) -> (Vec<u32>, Vec<u32>) {
+    const LENGTHS: u32 = 25;
+    let used = slots * 7 / 8;
+    let (mut addresses, mut tags) = (vec![0; slots as usize], vec![0; slots as usize]);
+    let mut count = [0; 33];
+    for i in 0..used {
+        let length = 32 - i * LENGTHS / used;
+        let slot = if length >= 16 { i } else { slots - used + i } as usize;
+        let j: u32 = count[length as usize];
+        addresses[slot] = j << (32 - length);
+        tags[slot] = length << 16 | (1 + i % 300);
+        count[length as usize] += 1;
+    }
+    assert_eq!(hawkmortar::slots::check(&addresses, &tags), Ok(used as usize));
+    assert_eq!(plain::slots::check(&addresses, &tags), Ok(used as usize));
+    (addresses, tags)
+}
+
+/// An address in the middle of those used, at whatever length matches it.
+fn lookup(measure: &mut dyn Measure, slots: u32, calls: u32) {
+    let (addresses, tags) = rows(slots);
+    let q = addresses[slots as usize / 2];
+    assert_eq!(
+        hawkmortar::slots::lookup(&addresses, &tags, q).map(number),
+        plain::slots::lookup(&addresses, &tags, q).map_err(|_| unreachable!("the image is good")),
+    );
+    measure.compare(
+        operation("slot lookup", slots, calls),
+        [
+            &mut || {
+                let rows = (black_box(&addresses), black_box(&tags));
+                let _ = black_box(hawkmortar::slots::lookup(rows.0, rows.1, black_box(q)));
+            },
+            &mut || {
+                let rows = (black_box(&addresses), black_box(&tags));
+                let _ = black_box(plain::slots::lookup(rows.0, rows.1, black_box(q)));
+            },
+        ],
+    );
+}
+
+fn check(measure: &mut dyn Measure, slots: u32, calls: u32) {
+    let (addresses, tags) = rows(slots);
+    measure.compare(
+        operation("slot check", slots, calls),
+        [
+            &mut || {
+                let _ = black_box(hawkmortar::slots::check(black_box(&addresses), black_box(&tags)));
+            },
+            &mut || {
+                let _ = black_box(plain::slots::check(black_box(&addresses), black_box(&tags)));
+            },
+        ],
+    );
+}
+
+/// An absent /32: its plan moves every length from 16 to 31.
+fn plan_set(measure: &mut dyn Measure, slots: u32, calls: u32) {
+    let (addresses, tags) = rows(slots);
+    let (mut proved, mut plain) = ([0; 54], [0; 54]);
+    let absent = u32::MAX;
+    let writes = hawkmortar::slots::plan_set(&addresses, &tags, absent, 32, 9, &mut proved);
+    assert_eq!(writes, Ok(17));
+    let writes = plain::slots::plan_set(&addresses, &tags, absent, 32, 9, &mut plain);
+    assert_eq!(writes, Ok(17));
+    assert_eq!(proved, plain);
+    measure.compare(
+        operation("plan a set", slots, calls),
+        [
+            &mut || {
+                let (rows, plan) = ((black_box(&addresses), black_box(&tags)), black_box(&mut proved));
+                let absent = black_box(absent);
+                let _ = black_box(hawkmortar::slots::plan_set(rows.0, rows.1, absent, 32, 9, plan));
+            },
+            &mut || {
+                let (rows, plan) = ((black_box(&addresses), black_box(&tags)), black_box(&mut plain));
+                let _ = black_box(plain::slots::plan_set(rows.0, rows.1, black_box(absent), 32, 9, plan));
+            },
+        ],
+    );
+}
+
+/// A /32 that is not the last of its length: its plan has the edge move, and moves every length from 31 to 16.
+fn plan_remove(measure: &mut dyn Measure, slots: u32, calls: u32) {
+    let (addresses, tags) = rows(slots);
+    let (mut proved, mut plain) = ([0; 54], [0; 54]);
+    let present = addresses[0];
+    let writes = hawkmortar::slots::plan_remove(&addresses, &tags, present, 32, &mut proved);
+    assert_eq!(writes, Ok(18));
+    let writes = plain::slots::plan_remove(&addresses, &tags, present, 32, &mut plain);
+    assert_eq!(writes, Ok(18));
+    assert_eq!(proved, plain);
+    measure.compare(
+        operation("plan a removal", slots, calls),
+        [
+            &mut || {
+                let (rows, plan) = ((black_box(&addresses), black_box(&tags)), black_box(&mut proved));
+                let present = black_box(present);
+                let _ = black_box(hawkmortar::slots::plan_remove(rows.0, rows.1, present, 32, plan));
+            },
+            &mut || {
+                let (rows, plan) = ((black_box(&addresses), black_box(&tags)), black_box(&mut plain));
+                let _ = black_box(plain::slots::plan_remove(rows.0, rows.1, black_box(present), 32, plan));
+            },
+        ],
+    );
+}
+
+/// A whole plan of 18 writes; making it again changes nothing.
+fn apply(measure: &mut dyn Measure, slots: u32, calls: u32) {
+    let (addresses, tags) = rows(slots);
+    let mut plan = [0; 54];
+    let writes = hawkmortar::slots::plan_remove(&addresses, &tags, addresses[0], 32, &mut plan);
+    assert_eq!(writes, Ok(18));
+    let (mut proved, mut plain) = ((addresses.clone(), tags.clone()), (addresses, tags));
+    measure.compare(
+        operation("apply 18 writes", slots, calls),
+        [
+            &mut || {
+                let rows = black_box(&mut proved);
+                let _ = black_box(hawkmortar::slots::apply(&mut rows.0, &mut rows.1, black_box(&plan), 18));
+            },
+            &mut || {
+                let rows = black_box(&mut plain);
+                let _ = black_box(plain::slots::apply(&mut rows.0, &mut rows.1, black_box(&plan), 18));
+            },
+        ],
+    );
+    assert_eq!(proved, plain);
+}

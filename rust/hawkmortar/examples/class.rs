@@ -1,0 +1,292 @@
+//! The lesson of docs/CLASS.md: four beliefs about route tables and five errors, each with what the tables really do.
+//! `make class` prints it.
+
+use hawkmortar::{dxr, list, slots, DxrTable, NextHop, Plan, Prefix, RangeTable, Refusal, Table};
+use std::fmt::Write as _;
+use std::net::Ipv4Addr;
+
+/// A route as text has it: prefix and hop.
+type Route = (&'static str, u16);
+
+/// The board's set P.
+const BOARD: [Route; 5] = [
+    ("10.0.0.0/8", 1),
+    ("10.20.0.0/16", 2),
+    ("10.20.4.0/24", 3),
+    ("10.20.4.9/32", 2),
+    ("0.0.0.0/0", 7),
+];
+
+fn main() -> Result<(), Refusal> {
+    print!("{}", lesson()?);
+    Ok(())
+}
+
+/// The whole lesson, part by part.
+pub fn lesson() -> Result<String, Refusal> {
+    let mut page = String::new();
+    let parts = [
+        update_is_a_row_of_writes,
+        removal_is_no_addition_backwards,
+        no_route_is_an_answer,
+        tables_of_one_set_agree,
+        slot_is_opened_first,
+        gap_is_filled_from_its_own_run,
+        default_route_matches_all,
+        chunk_starts_at_0,
+        hop_0_is_refused,
+    ];
+    for part in parts {
+        part(&mut page)?;
+    }
+    Ok(page)
+}
+
+/// 1. A set of three writes, with a lookup before and after each.
+fn update_is_a_row_of_writes(page: &mut String) -> Result<(), Refusal> {
+    line(page, "1. An update is a row of writes");
+    let mut table = board()?;
+    let q = "10.20.4.8";
+    let plan = table.plan_set(prefix("10.20.4.8/31"), hop(9))?;
+    line(page, &format!("set 10.20.4.8/31 9 is {} writes", plan.len()));
+    line(page, &format!("before: {}", found(q, table.lookup(address(q)))));
+    for k in 1..=plan.len() {
+        table.apply(&plan, k)?;
+        let answer = found(q, table.lookup(address(q)));
+        line(page, &format!("after write {k}, {}: {answer}", written(&plan, k)));
+    }
+    Ok(())
+}
+
+/// 2. A set, and a removal beside it that takes one write more.
+fn removal_is_no_addition_backwards(page: &mut String) -> Result<(), Refusal> {
+    line(page, "2. A removal can take one write more than the set");
+    let mut table = board()?;
+    for (text, number) in [("10.20.5.0/24", 4), ("10.20.6.0/24", 5)] {
+        let writes = table.set(prefix(text), hop(number))?;
+        line(page, &format!("set {text} {number}: {writes} writes"));
+    }
+    let plan = table.plan_remove(prefix("10.20.4.0/24"))?;
+    line(page, &format!("remove 10.20.4.0/24: {} writes", plan.len()));
+    for k in 1..=plan.len() {
+        line(page, &format!("write {k}: {}", written(&plan, k)));
+    }
+    Ok(())
+}
+
+/// 3. An address beside a prefix, in the four tables.
+fn no_route_is_an_answer(page: &mut String) -> Result<(), Refusal> {
+    line(page, "3. Where no prefix matches there is no hop");
+    let tables = Tables::of(&BOARD[..4])?;
+    tables.ask(page, "10.255.255.255")?;
+    tables.ask(page, "11.0.0.0")
+}
+
+/// 4. The first and the last address, in the four tables.
+fn tables_of_one_set_agree(page: &mut String) -> Result<(), Refusal> {
+    line(page, "4. The tables of one set agree, at the last address too");
+    let tables = Tables::of(&[("0.0.0.0/1", 1), ("255.255.255.0/24", 2), ("255.255.255.255/32", 3)])?;
+    for q in ["0.0.0.0", "128.0.0.0", "255.255.255.254", "255.255.255.255"] {
+        tables.ask(page, q)?;
+    }
+    Ok(())
+}
+
+/// 5. A set of two writes, in its order and in two others, with a lookup after the first write of each.
+fn slot_is_opened_first(page: &mut String) -> Result<(), Refusal> {
+    line(page, "5. The slot is opened, then written");
+    let table = filled(8, &[("10.0.0.0/8", 1), ("10.20.0.0/16", 2)])?;
+    let plan = table.plan_set(prefix("10.20.4.0/24"), hop(3))?;
+    let (moved, put) = plan.cells().split_at(3);
+    // the moved entry's old place is where the new entry goes
+    let cleared = [put[0], 0, 0];
+    let orders = [
+        ("as planned", vec![moved, put]),
+        ("old place cleared first", vec![&cleared, moved, put]),
+        ("new entry first", vec![put, moved]),
+    ];
+    for (name, writes) in orders {
+        let (mut addresses, mut tags) = (table.addresses().to_vec(), table.tags().to_vec());
+        slots::apply(&mut addresses, &mut tags, &writes.concat(), 1)?;
+        let q = "10.20.5.0";
+        let answer = found(q, slots::lookup(&addresses, &tags, address(q))?);
+        line(
+            page,
+            &format!("{name}, {} writes, after the first: {answer}", writes.len()),
+        );
+    }
+    Ok(())
+}
+
+/// 6. A removal from the middle of a run, with and without the move of the run's own last entry.
+fn gap_is_filled_from_its_own_run(page: &mut String) -> Result<(), Refusal> {
+    line(page, "6. The gap is filled from its own run");
+    let routes = [("10.20.4.0/24", 3), ("10.20.5.0/24", 4), ("10.20.0.0/16", 2)];
+    let table = filled(8, &routes)?;
+    let plan = table.plan_remove(prefix("10.20.4.0/24"))?;
+    // the /16 to the gap, and its own slot cleared
+    let (address, tag) = (table.addresses()[2], table.tags()[2]);
+    let without = [0, address, tag, 2, 0, 0];
+    for (name, cells) in [("planned", plan.cells()), ("without the edge move", &without)] {
+        let (mut addresses, mut tags) = (table.addresses().to_vec(), table.tags().to_vec());
+        let writes = slots::apply(&mut addresses, &mut tags, cells, cells.len() / 3)?;
+        let image = match slots::check(&addresses, &tags) {
+            Ok(used) => format!("{used} slots used, every rule kept"),
+            Err(refusal) => refusal.to_string(),
+        };
+        line(page, &format!("{name}, {writes} writes: {image}"));
+    }
+    Ok(())
+}
+
+/// 7. A set of the default route alone.
+fn default_route_matches_all(page: &mut String) -> Result<(), Refusal> {
+    line(page, "7. Length 0 matches every address");
+    let tables = Tables::of(&BOARD[4..])?;
+    for q in ["0.0.0.0", "127.255.255.255", "255.255.255.255"] {
+        tables.ask(page, q)?;
+    }
+    line(page, &format!("ranges: {}", shown(&tables.ranges)));
+    Ok(())
+}
+
+/// 8. A range that goes on into a chunk with entries of its own, and the chunk without the entry that it makes there.
+fn chunk_starts_at_0(page: &mut String) -> Result<(), Refusal> {
+    const CHUNK: usize = 10 << 8 | 1;
+    line(page, "8. Every chunk has an entry that starts at 0");
+    let routes = [("10.0.0.0/15", 1), ("10.1.128.0/17", 2), ("10.1.192.0/18", 3)];
+    let Tables { ranges, dxr, .. } = Tables::of(&routes)?;
+    line(page, &format!("ranges: {}", shown(&ranges)));
+    let mut main = dxr.main().to_vec();
+    chunk(page, CHUNK, &main, dxr.words());
+    // two short entries, which start at 128 x 256 and 192 x 256
+    main[CHUNK] = 2 << 30 | 2 << 16;
+    chunk(page, CHUNK, &main, &[0x8002_c003]);
+    Ok(())
+}
+
+/// A chunk's words, and what a lookup at its first address says.
+fn chunk(page: &mut String, chunk: usize, main: &[u32], words: &[u32]) {
+    let answer = match dxr::lookup(main, words, (chunk as u32) << 16) {
+        Ok(hop) => format!("hop {}", hop_or_none(hop)),
+        Err(refusal) => refusal.to_string(),
+    };
+    let words: Vec<String> = words.iter().map(|word| format!("{word:08x}")).collect();
+    let words = words.join(" ");
+    line(
+        page,
+        &format!(
+            "chunk {chunk}, main word {:08x}, range words {words}: {answer}",
+            main[chunk]
+        ),
+    );
+}
+
+/// 9. A list with hop 0, and a set without a route for an address.
+fn hop_0_is_refused(page: &mut String) -> Result<(), Refusal> {
+    line(page, "9. 0 is an answer, never a hop");
+    if let Err(refusal) = list::check(&[0], &[0], &[0]) {
+        line(page, &format!("0.0.0.0/0 with hop 0: {refusal}"));
+    }
+    Tables::of(&[("128.0.0.0/1", 1)])?.ask(page, "0.0.0.0")
+}
+
+/// One set of routes as a list, in slots, as ranges and as a DXR table.
+struct Tables {
+    rows: [Vec<u32>; 3],
+    slots: Table,
+    ranges: RangeTable,
+    dxr: DxrTable,
+}
+
+impl Tables {
+    fn of(routes: &[Route]) -> Result<Self, Refusal> {
+        let routes: Vec<(Prefix, NextHop)> = routes
+            .iter()
+            .map(|&(text, number)| (prefix(text), hop(number)))
+            .collect();
+        let row =
+            |number: fn(Prefix, NextHop) -> u32| routes.iter().map(|&(prefix, hop)| number(prefix, hop)).collect();
+        let mut slots = Table::new(8)?;
+        for &(prefix, hop) in &routes {
+            slots.set(prefix, hop)?;
+        }
+        Ok(Tables {
+            rows: [
+                row(|prefix, _| prefix.address().into()),
+                row(|prefix, _| prefix.length()),
+                row(|_, hop| hop.get().into()),
+            ],
+            slots,
+            ranges: RangeTable::of(routes.iter().copied())?,
+            dxr: DxrTable::of(routes)?,
+        })
+    }
+
+    /// What each of the four says of an address.
+    fn ask(&self, page: &mut String, q: &str) -> Result<(), Refusal> {
+        let [addresses, lengths, hops] = &self.rows;
+        let q_address = address(q);
+        let answers = [
+            ("list", list::lookup(addresses, lengths, hops, q_address)?),
+            ("slots", self.slots.lookup(q_address)),
+            ("ranges", self.ranges.lookup(q_address)),
+            ("DXR", self.dxr.lookup(q_address)),
+        ];
+        let said: Vec<String> = answers
+            .iter()
+            .map(|(name, hop)| format!("{name} {}", hop_or_none(*hop)))
+            .collect();
+        line(page, &format!("{q}: {}", said.join(", ")));
+        Ok(())
+    }
+}
+
+fn board() -> Result<Table, Refusal> {
+    filled(8, &BOARD)
+}
+
+fn filled(slots: usize, routes: &[Route]) -> Result<Table, Refusal> {
+    let mut table = Table::new(slots)?;
+    for &(text, number) in routes {
+        table.set(prefix(text), hop(number))?;
+    }
+    Ok(table)
+}
+
+fn line(page: &mut String, text: &str) {
+    writeln!(page, "{text}").expect("a string takes any text");
+}
+
+fn written(plan: &Plan, k: usize) -> String {
+    let write = plan.writes().nth(k - 1).expect("a plan's own write");
+    match write.entry() {
+        Some(entry) => format!("{} to slot {}", entry.prefix, entry.slot),
+        None => format!("slot {} cleared", write.slot()),
+    }
+}
+
+fn shown(ranges: &RangeTable) -> String {
+    let ranges: Vec<String> = ranges.iter().map(|range| range.to_string()).collect();
+    ranges.join(", ")
+}
+
+fn found(q: &str, hop: Option<NextHop>) -> String {
+    format!("{q} has hop {}", hop_or_none(hop))
+}
+
+fn hop_or_none(hop: Option<NextHop>) -> String {
+    hop.map_or("none".to_string(), |hop| hop.to_string())
+}
+
+fn prefix(text: &str) -> Prefix {
+    text.parse().expect("a prefix of the lesson")
+}
+
+fn hop(number: u16) -> NextHop {
+    NextHop::new(number).expect("a hop of the lesson")
+}
+
+fn address(text: &str) -> Ipv4Addr {
+    text.parse().expect("an address of the lesson")
+}
