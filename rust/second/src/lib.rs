@@ -1,8 +1,10 @@
 //! A plain model of docs/SPECIFICATION.md, written apart from the proved code and as simply as it can be said, to compare with.
 //!
-//! It answers numbers: a value, or the refusal's number and place.
+//! It answers numbers: a value, or the refusal's number and place. `both` asks the library and this model together; no other module
+//! knows the library.
 
 pub mod book;
+pub mod both;
 pub mod dxr;
 pub mod list;
 pub mod program;
@@ -11,6 +13,7 @@ pub mod ranges;
 pub mod records;
 pub mod report;
 pub mod slots;
+pub mod streams;
 
 /// A refusal's number and place.
 pub type Fault = (u8, usize);

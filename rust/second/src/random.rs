@@ -1,25 +1,58 @@
 //! Random lists, the same in every run.
 
-/// A generator of 64-bit numbers (SplitMix64).
-pub struct Random(u64);
+use std::vec;
+
+/// A generator of 64-bit numbers: from bytes as long as there are any, then from a seed (SplitMix64).
+pub struct Random {
+    bytes: vec::IntoIter<u8>,
+    state: u64,
+}
 
 impl Random {
     /// The generator of a seed.
     pub fn new(seed: u64) -> Self {
-        Random(seed)
+        Random {
+            bytes: Vec::new().into_iter(),
+            state: seed,
+        }
+    }
+
+    /// The generator of some bytes, which decide the numbers one after another; the seed behind them is 0.
+    pub fn of_bytes(bytes: &[u8]) -> Self {
+        Random {
+            bytes: Vec::from(bytes).into_iter(),
+            state: 0,
+        }
+    }
+
+    /// Whether the next number comes from bytes.
+    pub fn has_bytes(&self) -> bool {
+        !self.bytes.as_slice().is_empty()
+    }
+
+    /// The bytes that are left.
+    pub fn rest(&mut self) -> Vec<u8> {
+        self.bytes.by_ref().collect()
     }
 
     /// The next number.
     pub fn number(&mut self) -> u64 {
-        self.0 = self.0.wrapping_add(0x9e37_79b9_7f4a_7c15);
-        let mut z = self.0;
+        if self.has_bytes() {
+            return self.of_next(8);
+        }
+        self.state = self.state.wrapping_add(0x9e37_79b9_7f4a_7c15);
+        let mut z = self.state;
         z = (z ^ (z >> 30)).wrapping_mul(0xbf58_476d_1ce4_e5b9);
         z = (z ^ (z >> 27)).wrapping_mul(0x94d0_49bb_1331_11eb);
         z ^ (z >> 31)
     }
 
-    /// A number below `bound`, which is not 0.
+    /// A number below `bound`, which is not 0. Of bytes it takes no more than it needs.
     pub fn below(&mut self, bound: u64) -> u64 {
+        if self.has_bytes() {
+            let bits = 64 - (bound - 1).leading_zeros() as usize;
+            return self.of_next(bits.div_ceil(8)) % bound;
+        }
         self.number() % bound
     }
 
@@ -31,6 +64,12 @@ impl Random {
     /// Whether one chance in `n` came up.
     pub fn one_in(&mut self, n: u64) -> bool {
         self.below(n) == 0
+    }
+
+    /// The number of the next so many bytes, the low one first; bytes that are missing are 0.
+    fn of_next(&mut self, count: usize) -> u64 {
+        let bytes = self.bytes.by_ref().take(count);
+        bytes.enumerate().map(|(i, byte)| u64::from(byte) << (8 * i)).sum()
     }
 }
 

@@ -1,33 +1,19 @@
 //! The DXR calls of the library and of the second program, compared: the board, limits, room. And the DXR tables of many lists
 //! beside the lists themselves, their slots and their ranges.
 
-mod both;
-
-use both::dxr::{build, built, library_lookup, lookup, lookups, pointer, LONG, MAIN, SHORT};
-use both::list::{apart, list_of, one, prefix_at, routes, set_p, with_one_fault};
-use both::{about, slots_of};
 use hawkmortar::{DxrTable, Refusal, MAIN_WORDS, MAX_RANGE_WORDS, MAX_ROUTES};
+use second::both;
+use second::both::dxr::{
+    about_chunks, agree, build, built, library_lookup, lookup, lookups, pointer, LONG, MAIN, SHORT,
+};
+use second::both::list::{apart, list_of, one, prefix_at, routes, set_p, with_one_fault};
+use second::both::{about, slots_of};
 use second::dxr::{entries, Dxr, Entry};
 use second::ip;
 use second::list::answer;
 use second::random::{Random, Rows};
-use second::ranges::{boundaries, Ranges};
-use second::slots::Image;
+use second::ranges::boundaries;
 use std::collections::BTreeSet;
-
-/// Both programs answer each key alike in the list, its slots, its ranges and its DXR table.
-fn agree(list: &Rows, image: &Image, ranges: &Ranges, dxr: &Dxr, keys: &[u32]) {
-    let answers: Vec<_> = keys.iter().map(|&q| both::list::lookup(list, q)).collect();
-    assert_eq!(both::lookups(image, keys), answers, "slots of {list:?}");
-    assert_eq!(both::ranges::lookups(ranges, keys), answers, "ranges of {list:?}");
-    assert_eq!(lookups(dxr, keys), answers, "DXR table of {list:?}");
-}
-
-/// Some addresses, the first and the last of their chunks, and the neighbours of all these.
-fn about_chunks(addresses: &[u32]) -> Vec<u32> {
-    let keys: Vec<u32> = addresses.iter().flat_map(|&a| [a, a & !0xffff, a | 0xffff]).collect();
-    about(&keys)
-}
 
 /// The DXR table of a good list; at each of its boundaries, at the ends of their chunks and beside these it agrees with the list,
 /// its slots and its ranges.

@@ -1,9 +1,7 @@
 //! The list calls of the library and of the second program, compared.
 
-mod both;
-
-use both::list::{check, edges, lookup, one, set_p, with_one_fault};
 use hawkmortar::{list as proved, NextHop};
+use second::both::list::{check, edges, lookup, one, set_p, with_one_fault};
 use second::ip;
 use second::random::{Random, Rows};
 

@@ -3,12 +3,11 @@
 //! The library copies the entries into rows, with scratch of three sizes, for up to 64, 256 and 4,096 entries. Lists on both sides
 //! of each size are asked.
 
-mod both;
-
-use both::list::{apart, edges, list_of, one, routes, set_p, with_fault_at, with_one_fault};
-use both::prefixes::{check, damage, entries, library_check, library_lookup, lookup, lookups};
 use hawkmortar::prefixes::{self as proved, Entry};
 use hawkmortar::{NextHop, Refusal};
+use second::both;
+use second::both::list::{apart, edges, list_of, one, routes, set_p, with_fault_at, with_one_fault};
+use second::both::prefixes::{check, damage, entries, library_check, library_lookup, lookup, lookups};
 use second::list::{answer, bounds};
 use second::random::{Random, Rows};
 use second::{ip, Fault};

@@ -1,12 +1,11 @@
 //! The range calls of the library and of the second program, compared: the board, limits, room, damaged ranges. And the ranges of
 //! many lists beside the lists themselves and their slots.
 
-mod both;
-
-use both::list::{apart, list_of, one, prefix_at, routes, set_p, with_one_fault};
-use both::ranges::{build, built, damage, lookup, lookups};
-use both::{about, slots_of};
 use hawkmortar::{RangeTable, Refusal, MAX_RANGES, MAX_ROUTES};
+use second::both;
+use second::both::list::{apart, list_of, one, prefix_at, routes, set_p, with_one_fault};
+use second::both::ranges::{build, built, damage, lookup, lookups};
+use second::both::{about, slots_of};
 use second::list::{answer, bounds};
 use second::random::{Random, Rows};
 use second::ranges::{boundaries, Ranges};

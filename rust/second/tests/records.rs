@@ -1,14 +1,12 @@
 //! The call that reads an update record, of the library and of the second program, compared: every short string of bytes, random
 //! ones, streams of records with and without damage, limits, and each refusal by hand.
 
-mod both;
-
-use both::fault;
-use both::records::{
+use hawkmortar::Records;
+use second::both::fault;
+use second::both::records::{
     bytes_of, follow, groups, in_groups, library_bytes, numbers, random_record, random_records, record_at, record_of,
     shortest, Answer, REPORT,
 };
-use hawkmortar::Records;
 use second::ip;
 use second::random::Random;
 use second::records::Record;

@@ -1,13 +1,12 @@
 //! The report program, run as a process: its whole output beside the second program's. Random streams of updates, cut and damaged
 //! ones, each refusal by hand, inputs about the limit, tables that are full, and pipes that are slow.
 
-mod both;
-
-use both::records::{bytes_of, random_records, REPORT};
+use second::both::records::{bytes_of, random_records, REPORT};
 use second::program;
-use second::random::{Random, Rows};
+use second::random::Random;
 use second::records::Record;
 use second::report::{report, MOST, SLOTS};
+use second::streams::{damage, Updates};
 use std::fs::File;
 use std::io::{ErrorKind, Read, Write};
 use std::process::{Child, ChildStdin, ChildStdout, Command, Stdio};
@@ -131,64 +130,6 @@ impl Seen {
     fn full_at_least(&self, least: usize) {
         let removals = self.removals.iter().sum();
         self.each_at_least(least, &[self.sets[1], removals, self.refused[5], self.refused[6]]);
-    }
-}
-
-/// Updates of the prefixes of a list, so that they repeat: one in so many is a removal; hops are up to `hops`.
-struct Updates {
-    random: Random,
-    list: Rows,
-    removal: u64,
-    hops: u64,
-}
-
-impl Updates {
-    /// Updates of so many prefixes, which lie in a small or a large space.
-    fn new(seed: u64, prefixes: usize) -> Self {
-        let mut random = Random::new(seed);
-        let list = match random.below(4) {
-            0 => Rows::near(&mut random, prefixes, 1),
-            1 => Rows::routed(&mut random, prefixes, 1),
-            2 => Rows::in_blocks(&mut random, prefixes, 2, 32, 1),
-            _ => Rows::valid(&mut random, prefixes, u32::MAX),
-        };
-        Updates {
-            removal: random.pick(&[2, 3, 8]),
-            hops: random.pick(&[1, 2, 300, 65_535]),
-            random,
-            list,
-        }
-    }
-
-    fn next(&mut self) -> Record {
-        let i = self.random.below(self.list.addresses.len() as u64) as usize;
-        let (address, length) = (self.list.addresses[i], self.list.lengths[i]);
-        if self.random.one_in(self.removal) {
-            return [0, length, address, 0];
-        }
-        [1, length, address, 1 + self.random.below(self.hops) as u32]
-    }
-
-    /// The bytes of so many updates.
-    fn stream(&mut self, updates: usize) -> Vec<u8> {
-        let updates: Vec<Record> = (0..updates).map(|_| self.next()).collect();
-        bytes_of(&updates)
-    }
-
-    /// So many bytes, at least 20, of updates, the last of which ends with them.
-    fn filling(&mut self, length: usize) -> Vec<u8> {
-        let mut bytes = Vec::new();
-        while bytes.len() + 20 <= length {
-            bytes.extend(bytes_of(&[self.next()]));
-        }
-        while bytes.len() < length {
-            // the last 10 to 19 bytes are records of three and of four
-            let removal = (length - bytes.len()).is_multiple_of(3);
-            let record = if removal { [0, 0, 0, 0] } else { [1, 0, 0, 9] };
-            bytes.extend(bytes_of(&[record]));
-        }
-        assert_eq!(bytes.len(), length);
-        bytes
     }
 }
 
@@ -320,14 +261,7 @@ fn reports_of_streams_cut_and_damaged() {
         let (mut bytes, random) = (updates.stream(count), &mut updates.random);
         let length = bytes.len() as u64;
         seen.add(&both_print(&bytes[..random.below(length) as usize]));
-        for _ in 0..=random.below(3) {
-            let i = random.below(length) as usize;
-            bytes[i] = match random.below(3) {
-                0 => bytes[i] ^ 1 << random.below(8),
-                1 => random.pick(&[0, 1, 2, 32, 33, 127, 128, 255]),
-                _ => random.number() as u8,
-            };
-        }
+        damage(&mut bytes, random);
         seen.add(&both_print(&bytes));
     }
     seen.each_at_least(10, &[1, 2, 3, 6, 11, 12, 13].map(|refusal| seen.refused[refusal]));

@@ -1,10 +1,9 @@
 //! Single slot calls of the library and of the second program, compared: the board, limits, damaged images and plans, room.
 
-mod both;
-
-use both::{apply, check, edges, lookup, lookups, plan, remove, set, Update};
 use hawkmortar::{NextHop, Prefix, Refusal, Table};
 use second::book::Book;
+use second::both;
+use second::both::{apply, check, edges, lookup, lookups, plan, remove, set, Update};
 use second::ip;
 use second::random::Random;
 use second::slots::Image;

@@ -1,10 +1,11 @@
 //! The call that reads a record, asked of both programs, and records to ask for.
 
+use super::calls::{counted, Call};
 use super::fault;
+use crate::random::Random;
+use crate::records::{self as plain, Record};
+use crate::Fault;
 use hawkmortar::{records as proved, NextHop, Prefix};
-use second::random::Random;
-use second::records::{self as plain, Record};
-use second::Fault;
 
 /// The input of the report's example: set 10.0.0.0/8 hop 1, set 10.20.0.0/16 hop 2, remove 10.0.0.0/8.
 pub const REPORT: [u8; 12] = [0x01, 0x08, 0x0a, 0x01, 0x01, 0x10, 0x94, 0x14, 0x02, 0x00, 0x08, 0x0a];
@@ -27,7 +28,7 @@ const BLANK: [u32; 6] = [
 pub fn record_at(bytes: &[u8], at: usize) -> Answer {
     let mut row = BLANK;
     let lent = (&mut row[1..5]).try_into().expect("four cells");
-    let found = proved::numbers_at(bytes, at, lent).map_err(fault);
+    let found = counted(Call::RecordAt, proved::numbers_at(bytes, at, lent).map_err(fault));
     let expected = plain::record_at(bytes, at);
     let (mut next, mut left) = (expected.map(|_| at), BLANK);
     if let Ok(Some((record, behind))) = expected {

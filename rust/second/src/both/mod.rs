@@ -1,22 +1,24 @@
 //! The calls, each asked of both programs: the answers are compared, and so is every cell that was lent. A refused call has left
-//! all of them as they were, an accepted one has changed exactly what the second program says. The slot calls are here, those of
-//! lists in rows and in one slice, ranges, DXR tables and records in their own modules.
+//! all of them as they were, an accepted one has changed exactly what the second program says. A difference is a panic. The slot
+//! calls are here, those of lists in rows and in one slice, ranges, DXR tables and records in their own modules; `calls` counts
+//! them all.
 
-// a test file needs only a part
-#![allow(dead_code)]
-
+pub mod calls;
+pub mod chunk;
 pub mod dxr;
 pub mod list;
 pub mod prefixes;
 pub mod ranges;
 pub mod records;
+pub mod sequence;
 
+use crate::book::Book;
+use crate::list::bounds;
+use crate::random::{Random, Rows};
+use crate::slots::{self as plain, Image};
+use crate::Fault;
+use calls::{counted, Call};
 use hawkmortar::{slots as proved, NextHop, Refusal};
-use second::book::Book;
-use second::list::bounds;
-use second::random::{Random, Rows};
-use second::slots::{self as plain, Image};
-use second::Fault;
 use std::collections::BTreeSet;
 
 pub fn fault(refusal: Refusal) -> Fault {
@@ -55,7 +57,10 @@ pub fn remove(address: u32, length: u32) -> Update {
 /// What both programs answer to a test of the image.
 pub fn check(image: &Image) -> Result<usize, Fault> {
     let lent = image.clone();
-    let found = proved::check(&lent.addresses, &lent.tags).map_err(fault);
+    let found = counted(
+        Call::SlotCheck,
+        proved::check(&lent.addresses, &lent.tags).map_err(fault),
+    );
     assert_eq!(found, plain::check(&image.addresses, &image.tags), "{image:?}");
     assert!(lent == *image, "a test changed {image:?}");
     found
@@ -63,7 +68,10 @@ pub fn check(image: &Image) -> Result<usize, Fault> {
 
 /// What the library answers for the address `q`.
 pub fn library_lookup(image: &Image, q: u32) -> Result<u32, Fault> {
-    numbers(proved::lookup(&image.addresses, &image.tags, q))
+    counted(
+        Call::SlotLookup,
+        numbers(proved::lookup(&image.addresses, &image.tags, q)),
+    )
 }
 
 /// What both programs answer for each of some addresses.
@@ -88,19 +96,21 @@ pub fn plan(image: &Image, update: Update, room: usize) -> Result<Vec<u32>, Faul
     let blank: Vec<u32> = (0..room as u32).map(|i| 0xabcd_0000 + i).collect();
     let (lent, mut row) = (image.clone(), blank.clone());
     let Update { address, length, hop } = update;
-    let (found, expected) = match hop {
+    let (call, found, expected) = match hop {
         Some(hop) => (
+            Call::PlanSet,
             proved::plan_set(&lent.addresses, &lent.tags, address, length, hop, &mut row),
             plain::plan_set(&image.addresses, &image.tags, address, length, hop, room),
         ),
         None => (
+            Call::PlanRemove,
             proved::plan_remove(&lent.addresses, &lent.tags, address, length, &mut row),
             plain::plan_remove(&image.addresses, &image.tags, address, length, room),
         ),
     };
     let expected = expected.map(|writes| writes.concat());
     assert_eq!(
-        found.map_err(fault),
+        counted(call, found.map_err(fault)),
         expected.clone().map(|cells| cells.len() / 3),
         "{update:?}, room {room}, in {image:?}"
     );
@@ -116,7 +126,8 @@ pub fn apply(image: &mut Image, plan: &[u32], k: usize) -> Result<usize, Fault> 
     let before = image.clone();
     let mut expected_image = image.clone();
     let lent = plan.to_vec();
-    let found = proved::apply(&mut image.addresses, &mut image.tags, &lent, k).map_err(fault);
+    let found = proved::apply(&mut image.addresses, &mut image.tags, &lent, k);
+    let found = counted(Call::Apply, found.map_err(fault));
     let expected = plain::apply(&mut expected_image.addresses, &mut expected_image.tags, plan, k);
     assert_eq!(found, expected, "{k} writes of {plan:?}");
     assert!(*image == expected_image, "{k} writes of {plan:?} in {before:?}");

@@ -1,30 +1,37 @@
 //! The list calls, asked of both programs, and lists to ask for.
 
+use super::calls::{counted, Call};
 use super::{fault, numbers};
+use crate::list as plain;
+use crate::random::Rows;
+use crate::{ip, Fault};
 use hawkmortar::{list as proved, NextHop, Prefix};
-use second::list as plain;
-use second::random::Rows;
-use second::{ip, Fault};
 
 /// What both programs answer to a test of the list.
 pub fn check(rows: &Rows) -> Result<usize, Fault> {
-    let found = proved::check(&rows.addresses, &rows.lengths, &rows.hops).map_err(fault);
+    let lent = rows.clone();
+    let found = proved::check(&lent.addresses, &lent.lengths, &lent.hops);
+    let found = counted(Call::ListCheck, found.map_err(fault));
     assert_eq!(
         found,
         plain::check(&rows.addresses, &rows.lengths, &rows.hops),
         "{rows:?}"
     );
+    assert!(lent == *rows, "a test changed {rows:?}");
     found
 }
 
 /// What both programs answer for the address `q`.
 pub fn lookup(rows: &Rows, q: u32) -> Result<u32, Fault> {
-    let found = numbers(proved::lookup(&rows.addresses, &rows.lengths, &rows.hops, q));
+    let lent = rows.clone();
+    let found = proved::lookup(&lent.addresses, &lent.lengths, &lent.hops, q);
+    let found = counted(Call::ListLookup, numbers(found));
     assert_eq!(
         found,
         plain::lookup(&rows.addresses, &rows.lengths, &rows.hops, q),
         "{q} in {rows:?}"
     );
+    assert!(lent == *rows, "a lookup changed {rows:?}");
     found
 }
 

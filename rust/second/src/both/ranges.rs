@@ -1,10 +1,11 @@
 //! The range calls, asked of both programs.
 
+use super::calls::{counted, Call};
 use super::{fault, numbers};
+use crate::random::{Random, Rows};
+use crate::ranges::{self as plain, Ranges};
+use crate::Fault;
 use hawkmortar::ranges as proved;
-use second::random::{Random, Rows};
-use second::ranges::{self as plain, Ranges};
-use second::Fault;
 
 /// The ranges that both programs build in rows of so many starts and so many hops. The cells past them are as found.
 pub fn build(list: &Rows, starts_room: usize, hops_room: usize) -> Result<Ranges, Fault> {
@@ -22,7 +23,7 @@ pub fn build(list: &Rows, starts_room: usize, hops_room: usize) -> Result<Ranges
     );
     let expected = plain::build(list, starts_room, hops_room);
     assert_eq!(
-        found.map_err(fault),
+        counted(Call::RangesBuild, found.map_err(fault)),
         expected.clone().map(|ranges| ranges.starts.len()),
         "room for {starts_room} starts, {hops_room} hops, of {list:?}"
     );
@@ -48,7 +49,10 @@ pub fn built(list: &Rows) -> Ranges {
 
 /// What the library answers for the address `q`.
 pub fn library_lookup(ranges: &Ranges, q: u32) -> Result<u32, Fault> {
-    numbers(proved::lookup(&ranges.starts, &ranges.hops, q))
+    counted(
+        Call::RangeLookup,
+        numbers(proved::lookup(&ranges.starts, &ranges.hops, q)),
+    )
 }
 
 /// What both programs answer for each of some addresses.

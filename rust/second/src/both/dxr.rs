@@ -1,10 +1,13 @@
 //! The DXR calls, asked of both programs.
 
-use super::{fault, numbers};
+use super::calls::{counted, Call};
+use super::{about, fault, numbers};
+use crate::dxr::{self as plain, Dxr};
+use crate::random::Rows;
+use crate::ranges::Ranges;
+use crate::slots::Image;
+use crate::Fault;
 use hawkmortar::dxr as proved;
-use second::dxr::{self as plain, Dxr};
-use second::random::Rows;
-use second::Fault;
 
 /// The words of a main table.
 pub const MAIN: usize = 65_536;
@@ -35,7 +38,7 @@ pub fn build(list: &Rows, main_words: usize, room: usize) -> Result<Dxr, Fault> 
     );
     let expected = plain::build(list, main_words, room);
     assert_eq!(
-        found.map_err(fault),
+        counted(Call::DxrBuild, found.map_err(fault)),
         expected.as_ref().map(|dxr| dxr.words.len()).map_err(|&fault| fault),
         "{main_words} main words, room for {room} range words, of {list:?}"
     );
@@ -66,7 +69,7 @@ pub fn built(list: &Rows) -> Dxr {
 
 /// What the library answers for the address `q`.
 pub fn library_lookup(dxr: &Dxr, q: u32) -> Result<u32, Fault> {
-    numbers(proved::lookup(&dxr.main, &dxr.words, q))
+    counted(Call::DxrLookup, numbers(proved::lookup(&dxr.main, &dxr.words, q)))
 }
 
 /// What both programs answer for each of some addresses.
@@ -89,4 +92,18 @@ pub fn lookups(dxr: &Dxr, keys: &[u32]) -> Vec<Result<u32, Fault>> {
 /// What both programs answer for the address `q`.
 pub fn lookup(dxr: &Dxr, q: u32) -> Result<u32, Fault> {
     lookups(dxr, &[q])[0]
+}
+
+/// Both programs answer each key alike in the list, its slots, its ranges and its DXR table.
+pub fn agree(list: &Rows, image: &Image, ranges: &Ranges, dxr: &Dxr, keys: &[u32]) {
+    let answers: Vec<_> = keys.iter().map(|&q| super::list::lookup(list, q)).collect();
+    assert_eq!(super::lookups(image, keys), answers, "slots of {list:?}");
+    assert_eq!(super::ranges::lookups(ranges, keys), answers, "ranges of {list:?}");
+    assert_eq!(lookups(dxr, keys), answers, "DXR table of {list:?}");
+}
+
+/// Some addresses, the first and the last of their chunks, and the neighbours of all these.
+pub fn about_chunks(addresses: &[u32]) -> Vec<u32> {
+    let keys: Vec<u32> = addresses.iter().flat_map(|&a| [a, a & !0xffff, a | 0xffff]).collect();
+    about(&keys)
 }

@@ -1,9 +1,10 @@
 //! The list calls over one slice of entries, asked of the library, for the answers that both programs give to its rows.
 
+use super::calls::{counted, Call};
 use super::{fault, list, numbers};
+use crate::random::{Random, Rows};
+use crate::Fault;
 use hawkmortar::prefixes::{self as proved, Entry};
-use second::random::{Random, Rows};
-use second::Fault;
 
 /// The entries of a list whose rows have one length.
 pub fn entries(rows: &Rows) -> Vec<Entry> {
@@ -19,12 +20,12 @@ pub fn entries(rows: &Rows) -> Vec<Entry> {
 
 /// What the library answers to a test of the list.
 pub fn library_check(list: &[Entry]) -> Result<usize, Fault> {
-    proved::check(list).map_err(fault)
+    counted(Call::PrefixesCheck, proved::check(list).map_err(fault))
 }
 
 /// What the library answers for the address `q`.
 pub fn library_lookup(list: &[Entry], q: u32) -> Result<u32, Fault> {
-    numbers(proved::lookup(list, q))
+    counted(Call::PrefixesLookup, numbers(proved::lookup(list, q)))
 }
 
 /// What both programs answer to a test of the list.

@@ -1,0 +1,380 @@
+//! A random sequence of updates, each asked of the library, of the second program's plans and of the book.
+//!
+//! After every call the image is the book's. Every cut of every accepted plan is made on a copy by both programs, and lookups
+//! in it answer as the set before the update, or from the write on that shows the update as the set after. On tables of up to
+//! 64 slots each cut is asked at every edge of every prefix, of both programs. On 4,096 slots a lookup takes microseconds and a
+//! plan's test of the image milliseconds: there each cut asks the library at a sample of the edges, as `cuts_at_some_edges`
+//! says.
+
+use super::{edges, remove, set, Update};
+use crate::book::Book;
+use crate::list::answer;
+use crate::random::{Random, Rows};
+use crate::slots::Image;
+use std::collections::{HashMap, HashSet};
+
+/// How often each kind of call came.
+#[derive(Default, Debug)]
+pub struct Seen {
+    /// Sets of an absent prefix, by their writes.
+    pub sets: [usize; 18],
+    /// Sets of a present prefix with another hop.
+    pub other_hop: usize,
+    /// Sets of a present prefix with its own hop.
+    pub same_hop: usize,
+    /// Removals, by their writes.
+    pub removals: [usize; 19],
+    /// Removals with an edge move.
+    pub edge_moves: usize,
+    /// Refusals, by their number.
+    pub refused: [usize; 14],
+    /// Calls on a full table.
+    pub full: usize,
+    /// Calls on an empty table.
+    pub empty: usize,
+}
+
+/// A table of up to so many slots is asked at every edge of every prefix on every cut.
+const ALL_EDGES: usize = 64;
+
+/// A table in the middle of a sequence.
+pub struct Run<'a> {
+    random: Random,
+    supply: Vec<(u32, u32)>,
+    book: Book,
+    image: Image,
+    /// The book's set.
+    list: Rows,
+    /// Whether the table fills up; else it empties.
+    pub filling: bool,
+    /// With so few entries it fills up again.
+    pub least: usize,
+    /// One call in so many is at odds with the filling or emptying of the table, or has a fault.
+    odd: u64,
+    /// Where the rotating sample of prefixes stands.
+    turn: usize,
+    seen: &'a mut Seen,
+}
+
+impl<'a> Run<'a> {
+    /// An empty table of so many slots, and prefixes to draw from.
+    pub fn new(random: Random, supply: Vec<(u32, u32)>, slots: usize, odd: u64, seen: &'a mut Seen) -> Self {
+        Run {
+            random,
+            supply,
+            book: Book::new(slots),
+            image: Image::empty(slots),
+            list: Rows::default(),
+            filling: true,
+            least: 0,
+            odd,
+            turn: 0,
+            seen,
+        }
+    }
+
+    /// Feeds the book alone until it has so many entries or the supply ends, and takes over its image.
+    pub fn prefill(&mut self, entries: usize) {
+        for i in 0..self.supply.len() {
+            if self.book.entries() < entries {
+                let (address, length) = self.supply[i];
+                self.book.set(address, length, 1 + i as u32, 54).unwrap();
+            }
+        }
+        self.image = self.book.image();
+        self.list = self.book.set_of_entries();
+        assert_eq!(super::check(&self.image), Ok(self.book.entries()));
+    }
+
+    /// So many updates.
+    pub fn calls(&mut self, calls: usize) {
+        (0..calls).for_each(|_| self.next_call());
+    }
+
+    /// Updates, at most so many, while the random numbers come from bytes.
+    pub fn calls_of_bytes(&mut self, most: usize) {
+        for _ in 0..most {
+            if !self.random.has_bytes() {
+                return;
+            }
+            self.next_call();
+        }
+    }
+
+    fn next_call(&mut self) {
+        let update = self.draw();
+        let room = if self.random.one_in(10) {
+            self.random.below(60) as usize
+        } else {
+            54 + self.random.below(4) as usize
+        };
+        self.call(update, room);
+        let large = self.image.tags.len() > ALL_EDGES;
+        if self.random.one_in(if large { 50 } else { 10 }) {
+            self.damaged(update, room);
+        }
+    }
+
+    /// The next update: the table fills up or empties, with calls of the other kind, repeated and faulty ones among them.
+    fn draw(&mut self) -> Update {
+        let (entries, slots) = (self.list.addresses.len(), self.image.tags.len());
+        self.seen.full += usize::from(entries == slots);
+        self.seen.empty += usize::from(entries == 0);
+        let chance = match entries {
+            n if n <= self.least && !self.filling => 2,
+            n if n == slots && self.filling => 6,
+            _ => 30 * slots as u64,
+        };
+        self.filling ^= self.random.one_in(chance);
+        let setting = self.filling != self.random.one_in(self.odd);
+        let mut update = if setting { self.draw_set() } else { self.draw_removal() };
+        if self.random.one_in(2 * self.odd) {
+            match self.random.below(3) {
+                0 => update.length = self.random.pick(&[33, 34, 64, 255, u32::MAX]),
+                1 => (update.address, update.length) = (update.address | 1, self.random.below(32) as u32),
+                _ => update.hop = update.hop.map(|_| self.random.pick(&[0, 65_536, 65_537, u32::MAX])),
+            }
+        }
+        update
+    }
+
+    fn draw_set(&mut self) -> Update {
+        if self.random.one_in(2 * self.odd) {
+            if let Some((address, length, hop)) = self.present() {
+                let other = if self.random.one_in(2) { hop } else { self.hop() };
+                return set(address, length, other);
+            }
+        }
+        let mut prefix = self.random.pick(&self.supply);
+        for _ in 0..6 {
+            if self.book.has(prefix.0, prefix.1) {
+                prefix = self.random.pick(&self.supply);
+            }
+        }
+        set(prefix.0, prefix.1, self.hop())
+    }
+
+    fn draw_removal(&mut self) -> Update {
+        match self.present() {
+            Some((address, length, _)) if !self.random.one_in(4 * self.odd) => remove(address, length),
+            _ => {
+                let (address, length) = self.random.pick(&self.supply);
+                remove(address, length)
+            }
+        }
+    }
+
+    /// An entry of the table.
+    fn present(&mut self) -> Option<(u32, u32, u32)> {
+        let entries = self.list.addresses.len();
+        if entries == 0 {
+            return None;
+        }
+        let i = self.random.below(entries as u64) as usize;
+        Some((self.list.addresses[i], self.list.lengths[i], self.list.hops[i]))
+    }
+
+    fn hop(&mut self) -> u32 {
+        match self.random.below(8) {
+            0 => 65_535,
+            1 => 1 + self.random.below(65_535) as u32,
+            _ => 1 + self.random.below(4) as u32,
+        }
+    }
+
+    /// One update, asked of all three; where it is accepted, each of its cuts, then the whole.
+    fn call(&mut self, update: Update, room: usize) {
+        let Update { address, length, hop } = update;
+        let absent = length <= 32 && !self.book.has(address, length);
+        let said = match hop {
+            Some(hop) => self.book.set(address, length, hop, room),
+            None => self.book.remove(address, length, room),
+        };
+        let plan = super::plan(&self.image, update, room);
+        assert_eq!(plan.clone().map(|cells| cells.len() / 3), said, "{update:?}, the book");
+        match plan {
+            Err((number, _)) => self.seen.refused[usize::from(number)] += 1,
+            Ok(plan) => {
+                self.count(update, absent, &plan);
+                let after = self.book.set_of_entries();
+                // the write that shows the update
+                let shown = if hop.is_some() && absent { plan.len() / 3 } else { 1 };
+                if self.image.tags.len() <= ALL_EDGES {
+                    self.cuts_at_all_edges(update, &plan, shown, &after);
+                } else {
+                    self.cuts_at_some_edges(update, &plan, shown, &after);
+                }
+                self.refused_applies(&plan);
+                super::apply(&mut self.image, &plan, plan.len() / 3).unwrap();
+                self.list = after;
+            }
+        }
+        assert!(self.image == self.book.image(), "the image after {update:?}");
+    }
+
+    fn count(&mut self, update: Update, absent: bool, plan: &[u32]) {
+        let writes = plan.len() / 3;
+        match update.hop {
+            Some(_) if absent => self.seen.sets[writes] += 1,
+            Some(_) if writes == 0 => self.seen.same_hop += 1,
+            Some(_) => self.seen.other_hop += 1,
+            None => {
+                self.seen.removals[writes] += 1;
+                self.seen.edge_moves += usize::from(plan[2] >> 16 == update.length && plan[2] != 0);
+            }
+        }
+    }
+
+    /// Both programs, on every cut, at the edges of every prefix of the set before and of the set after.
+    fn cuts_at_all_edges(&mut self, update: Update, plan: &[u32], shown: usize, after: &Rows) {
+        let mut keys = vec![0, u32::MAX];
+        for list in [&self.list, after] {
+            let prefixes = list.addresses.iter().zip(&list.lengths);
+            keys.extend(prefixes.flat_map(|(&address, &length)| edges(address, length)));
+        }
+        keys.sort_unstable();
+        keys.dedup();
+        let answers = |list: &Rows| -> Vec<_> {
+            let rows = (&list.addresses, &list.lengths, &list.hops);
+            keys.iter().map(|&q| Ok(answer(rows.0, rows.1, rows.2, q))).collect()
+        };
+        let (old, new) = (answers(&self.list), answers(after));
+        let writes = plan.len() / 3;
+        for k in 0..=writes {
+            let mut cut = self.image.clone();
+            super::apply(&mut cut, plan, k).unwrap();
+            let expected = if k < shown { &old } else { &new };
+            assert_eq!(super::lookups(&cut, &keys), *expected, "after {k} writes of {update:?}");
+            if 0 < k && k < writes && self.random.one_in(8) {
+                // a prefix stands twice
+                assert!(matches!(super::plan(&cut, update, 54), Err((7, _))), "{cut:?}");
+                self.seen.refused[7] += 1;
+            }
+        }
+    }
+
+    /// The library, on every cut, at a sample of the edges: those of the updated prefix, of the prefix written last, of the
+    /// prefix to be written next, and of one more prefix of the set after, another one each time. After the last write also the
+    /// edges of all prefixes written.
+    fn cuts_at_some_edges(&mut self, update: Update, plan: &[u32], shown: usize, after: &Rows) {
+        let (old, new) = (Routes::of(&self.list), Routes::of(after));
+        let cells = plan.chunks_exact(3).map(|write| edges(write[1], write[2] >> 16));
+        let written: Vec<[u32; 4]> = cells.collect();
+        let writes = written.len();
+        for k in 0..=writes {
+            let mut cut = self.image.clone();
+            super::apply(&mut cut, plan, k).unwrap();
+            let mut keys = edges(update.address, update.length).to_vec();
+            let near = if k == writes { 0 } else { k.saturating_sub(1) };
+            keys.extend(written[near..writes.min(k + 1)].iter().flatten());
+            if !after.addresses.is_empty() {
+                self.turn = (self.turn + 1) % after.addresses.len();
+                keys.extend(edges(after.addresses[self.turn], after.lengths[self.turn]));
+            }
+            keys.sort_unstable();
+            keys.dedup();
+            let routes = if k < shown { &old } else { &new };
+            for &q in &keys {
+                let found = super::library_lookup(&cut, q);
+                assert_eq!(found, Ok(routes.answer(q)), "{q} after {k} writes of {update:?}");
+            }
+        }
+        // the set's answers by lengths are those of the list
+        let q = self.random.number() as u32 & update.address;
+        assert_eq!(new.answer(q), answer(&after.addresses, &after.lengths, &after.hops, q));
+    }
+
+    /// A plan that is too short or damaged, or rows of unequal length: refused, and the copy as it was.
+    fn refused_applies(&mut self, plan: &[u32]) {
+        if !self.random.one_in(6) {
+            return;
+        }
+        let writes = plan.len() / 3;
+        let (mut copy, mut plan, mut k) = (self.image.clone(), plan.to_vec(), writes);
+        let place = self.random.below(writes.max(1) as u64) as usize;
+        let bad_tags = [33 << 16 | 1, 16 << 16, 65_535 << 16 | 9, u32::MAX];
+        match self.random.below(4) {
+            0 => k = self.random.pick(&[k + 1, k + 2, usize::MAX / 3 + 1, usize::MAX]),
+            1 => {
+                copy.tags.pop();
+            }
+            _ if writes == 0 => k = 1,
+            2 => plan[3 * place] = self.random.pick(&[copy.tags.len() as u32, 4096, 65_536, u32::MAX]),
+            _ => plan[3 * place + 2] = self.random.pick(&bad_tags),
+        }
+        let (number, _) = super::apply(&mut copy, &plan, k).unwrap_err();
+        self.seen.refused[usize::from(number)] += 1;
+    }
+
+    /// The same update in a damaged copy, most of them refused; the book is not asked.
+    fn damaged(&mut self, update: Update, room: usize) {
+        let mut copy = self.image.clone();
+        super::damage(&mut copy, &mut self.random);
+        if let Err((number, _)) = super::plan(&copy, update, room) {
+            self.seen.refused[usize::from(number)] += 1;
+        }
+        let _ = super::check(&copy);
+        let _ = super::lookup(&copy, update.address);
+    }
+}
+
+/// A set by its prefixes: the answer is that of the greatest length at which the address, cut to it, is there.
+struct Routes(HashMap<(u32, u32), u32>);
+
+impl Routes {
+    fn of(list: &Rows) -> Self {
+        let prefixes = list.addresses.iter().copied().zip(list.lengths.iter().copied());
+        Routes(prefixes.zip(list.hops.iter().copied()).collect())
+    }
+
+    fn answer(&self, q: u32) -> u32 {
+        let hop = (0..=32)
+            .rev()
+            .find_map(|length| self.0.get(&(cut_to(q, length), length)));
+        hop.copied().unwrap_or(0)
+    }
+}
+
+/// An address with the bits behind the prefix's length put to 0.
+fn cut_to(q: u32, length: u32) -> u32 {
+    (u64::from(q) >> (32 - length) << (32 - length)) as u32
+}
+
+/// Prefixes to draw from, half as many again as there are slots where the lengths have so many: a few lengths or many, above
+/// the pool, below it or both, and addresses near three others, so that they lie inside each other.
+pub fn supply(random: &mut Random, slots: usize) -> Vec<(u32, u32)> {
+    let above: Vec<u32> = (16..=32).collect();
+    let below: Vec<u32> = (0..=15).collect();
+    let all: Vec<u32> = (0..=32).collect();
+    // all lengths of a side more often where they fit: such tables have the longest plans
+    let lengths = match random.below(if slots > 32 { 8 } else { 6 }) {
+        0 => few(random, &above),
+        1 => few(random, &below[4..]),
+        2 => few(random, &all),
+        3 => all,
+        4 | 6 => below,
+        _ => above,
+    };
+    let near = [
+        random.number() as u32,
+        random.number() as u32,
+        random.pick(&[0, u32::MAX]),
+    ];
+    let mut found = Vec::new();
+    let mut seen = HashSet::new();
+    for _ in 0..64 + 16 * slots {
+        let length = random.pick(&lengths);
+        // the prefix's last bits turned
+        let turned = random.below(2 * slots as u64) << (32 - length);
+        let address = cut_to(random.pick(&near) ^ turned as u32, length);
+        if found.len() < 2 + slots + slots / 2 && seen.insert((address, length)) {
+            found.push((address, length));
+        }
+    }
+    found
+}
+
+/// Two to five of some lengths.
+fn few(random: &mut Random, lengths: &[u32]) -> Vec<u32> {
+    (0..2 + random.below(4)).map(|_| random.pick(lengths)).collect()
+}
