@@ -1,4 +1,4 @@
--- `query_64`, `query_256` and `query_4096` meet their contracts (`query-met`): one walk of the MIR that they share but for the number n of elements of their array.
+-- `query_64`, `query_256`, `query_1024` and `query_4096` meet their contracts (`query-met`): one walk of the MIR that they share but for the number n of elements of their array.
 -- The array of zeros is taken apart into its elements. These are lent to `copy_rows` for a lifetime that is made for the call, come back with the rows, are lent to `query_rows` for a second lifetime, and are room for the array again.
 -- All that the proof knows of the two callees is that each meets its contract.
 use mathlib.Core.Path.{_≡_, refl, sym, _∙_, subst}

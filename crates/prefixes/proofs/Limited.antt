@@ -1,4 +1,4 @@
--- Functions that query a list: a flag and an address stand behind it. The contract that `query_64`, `query_256` and `query_4096` have, by the most entries of a list.
+-- Functions that query a list: a flag and an address stand behind it. The contract that `query_64`, `query_256`, `query_1024` and `query_4096` have, by the most entries of a list.
 use Prim.Native.Nat.{ℕ, _≤_, _<_, _^_}
 use mathlib.Core.Path.{refl}
 use mathlib.Core.Bool.{Bool}

@@ -2,7 +2,7 @@
 //
 // `copy_rows` walks the slice and writes its rows, addresses, lengths and hops, one behind the other
 // into an array of the call's own; the calls over rows answer. An array is cleared at every call, so
-// there are three sizes of it, and a short list does not pay for the longest.
+// there are four sizes of it, and a short list does not pay for the longest.
 ghost use mathlib.Core.Path.{_≡_};
 ghost use Prim.Native.Nat.{_*_, _≤_};
 ghost use lib.ListN.{length};
@@ -64,6 +64,9 @@ fn query_long(list: &[Prefix], looking: bool, q: u32) -> Reply
     if list.len() <= 256 {
         return query_256(list, looking, q);
     }
+    if list.len() <= 1024 {
+        return query_1024(list, looking, q);
+    }
     if list.len() <= MAX_ROUTES {
         return query_4096(list, looking, q);
     }
@@ -96,6 +99,16 @@ fn query_256(list: &[Prefix], looking: bool, q: u32) -> Reply
     ensures { λ r. ⌜ IsReplyOf 32 looking (now (list .entry)) q r ⌝ }
 {
     let mut rows = [0u32; 768];
+    copy_rows(list, &mut rows);
+    query_rows(&rows, list.len(), looking, q)
+}
+
+// Queries a list of at most 1,024 entries.
+fn query_1024(list: &[Prefix], looking: bool, q: u32) -> Reply
+    requires { ⌜ length (now list) ≤ 1024 ⌝ }
+    ensures { λ r. ⌜ IsReplyOf 32 looking (now (list .entry)) q r ⌝ }
+{
+    let mut rows = [0u32; 3072];
     copy_rows(list, &mut rows);
     query_rows(&rows, list.len(), looking, q)
 }

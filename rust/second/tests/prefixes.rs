@@ -1,7 +1,7 @@
 //! The list calls over one slice of entries: they answer as the second program does, and as the calls over rows.
 //!
-//! The library copies the entries into rows, with scratch of three sizes, for up to 64, 256 and 4,096 entries. Lists on both sides
-//! of each size are asked.
+//! The library copies the entries into rows, with scratch of four sizes, for up to 64, 256, 1,024 and 4,096 entries. Lists on both
+//! sides of each size are asked.
 
 use hawkmortar::prefixes::{self as proved, Entry};
 use hawkmortar::{NextHop, Refusal};
@@ -15,7 +15,7 @@ use std::collections::BTreeSet;
 use std::thread;
 
 /// Sizes of lists that are accepted: the least, and those on both sides of each size of scratch.
-const SIZES: [usize; 10] = [0, 1, 63, 64, 65, 255, 256, 257, 4095, 4096];
+const SIZES: [usize; 13] = [0, 1, 63, 64, 65, 255, 256, 257, 1023, 1024, 1025, 4095, 4096];
 
 /// Sizes of lists that are refused. The second last is 64 in 16 bits.
 const TOO_MANY: [usize; 5] = [4097, 4098, 5000, 65_600, 1_000_000];
@@ -31,7 +31,7 @@ const fn entry(octets: [u8; 4], length: u32, hop: u32) -> Entry {
 
 /// Some places of a list: the first two, those on both sides of each size of scratch, the middle and the last two.
 fn places(entries: usize) -> BTreeSet<usize> {
-    let some = [0, 1, 63, 64, 65, 255, 256, 257, entries / 2];
+    let some = [0, 1, 63, 64, 65, 255, 256, 257, 1023, 1024, 1025, entries / 2];
     let last = entries.saturating_sub(2)..entries;
     some.into_iter().chain(last).filter(|&place| place < entries).collect()
 }
@@ -133,7 +133,7 @@ fn numbers_of_one_entry() {
 /// Each bit of each number turned, in entries of lists on both sides of a size of scratch.
 #[test]
 fn every_bit_of_an_entry() {
-    for mut rows in [1, 5, 64, 65, 256, 257].map(apart) {
+    for mut rows in [1, 5, 64, 65, 256, 257, 1024, 1025].map(apart) {
         let last = rows.addresses.len() - 1;
         for place in [0, last / 2, last] {
             for bit in 0..96 {
@@ -346,7 +346,7 @@ fn a_list_in_memory_that_cannot_be_written() {
 #[test]
 fn lists_lent_to_several_threads() {
     let mut random = Random::new(40);
-    for (size, rounds) in [(64, 2000), (256, 100), (4096, 4)] {
+    for (size, rounds) in [(64, 2000), (256, 100), (1024, 20), (4096, 4)] {
         let lists: Vec<Rows> = (0..4).map(|_| Rows::valid(&mut random, size, u32::MAX)).collect();
         let shared = &entries(&lists[0]);
         let keys = &[lists[0].addresses[size - 1], lists[1].addresses[0]];
@@ -419,7 +419,7 @@ fn many(random: &mut Random, round: usize, entries: usize) -> Rows {
 #[test]
 fn random_lists_about_each_size_of_scratch() {
     let mut random = Random::new(42);
-    for (sizes, rounds) in [([63, 64, 65], 40), ([255, 256, 257], 4)] {
+    for (sizes, rounds) in [([63, 64, 65], 40), ([255, 256, 257], 4), ([1023, 1024, 1025], 1)] {
         for round in 0..rounds {
             for entries in sizes {
                 let rows = many(&mut random, round, entries);
@@ -438,7 +438,8 @@ fn random_damaged_lists_about_each_size_of_scratch() {
     for round in 0..3000 {
         let entries = match random.below(64) {
             0 => random.pick(&[4095, 4096]),
-            1..=8 => random.pick(&[255, 256, 257]),
+            1 => random.pick(&[1023, 1024, 1025]),
+            2..=8 => random.pick(&[255, 256, 257]),
             _ => random.pick(&[62, 63, 64, 65]),
         };
         let mut rows = many(&mut random, round, entries);

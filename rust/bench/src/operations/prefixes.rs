@@ -9,7 +9,16 @@ use std::hint::black_box;
 const ASKED: f64 = 1.25;
 
 pub fn all(measure: &mut dyn Measure) {
-    for (entries, calls) in [(16, 20_000), (64, 2000), (65, 2000), (256, 200), (257, 200), (4096, 1)] {
+    for (entries, calls) in [
+        (16, 20_000),
+        (64, 2000),
+        (65, 2000),
+        (256, 200),
+        (257, 200),
+        (1024, 20),
+        (1025, 20),
+        (4096, 1),
+    ] {
         check_and_lookup(measure, entries, calls);
     }
 }
