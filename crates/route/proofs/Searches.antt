@@ -2,7 +2,7 @@
 use Prim.Native.Nat.{ℕ, zero, suc, _+_, _-_, _≤_, _<_}
 use mathlib.Core.Path.{_≡_, sym, _∙_}
 use mathlib.Core.Logic.{⊎-elim}
-use mathlib.Core.Bool.{Bool, true, false, _||_, or-true}
+use mathlib.Core.Bool.{Bool, true, false, _||_, or-true, or-assoc}
 use native.Mathlib.Nat.{le-of-suc-le-suc, eq-or-lt-of-le}
 use native.Mathlib.Numerals.{add-one}
 use native.Mathlib.Omega.{arith}
@@ -46,12 +46,27 @@ pub record FoundFrom {A : Type 0} (p : A → Bool) (at : ℕ → A) (m i j : ℕ
 pub from-start : {A : Type 0} {p : A → Bool} {at : ℕ → A} {m i : ℕ} → m ≤ i → FoundFrom p at m i m false
 from-start {m = m} l = let z : m - m ≡ 0 = omega arith in record { behind = omega arith; within = l; is = rw z }
 
+-- two blocks, one behind the other
+any-joined : {A : Type 0} (p : A → Bool) (at : ℕ → A) (m k n : ℕ) →
+    any p (placesFrom at m (k + n)) ≡ (any p (placesFrom at (m + k) n) || any p (placesFrom at m k))
+any-joined p at m k zero = let z : k + 0 ≡ k = omega arith in rw z
+any-joined p at m k (suc n) =
+    let z : k + suc n ≡ suc (k + n) = omega arith in
+    let place : m + (k + n) ≡ m + k + n = omega arith in
+    rw (z, place, any-joined p at m k n) (sym (or-assoc (p (at (m + k + n))) _ _))
+
 module _ {A : Type 0} {p : A → Bool} {at : ℕ → A} {m i j : ℕ} {found : Bool} (f : FoundFrom p at m i j found) where
   pub from-turn : {here : Bool} {x : A} → j < i → x ≡ at j → here ≡ p x → FoundFrom p at m i (j + 1) (here || found)
   from-turn l q e =
       let more : j + 1 - m ≡ suc (j - m) = omega (arith, f .behind) in
       let place : m + (j - m) ≡ j = omega (arith, f .behind) in
       record { behind = omega (arith, f .behind); within = omega arith; is = rw (more, place, e, q, f .is) }
+
+  pub from-block : {here : Bool} (k : ℕ) → j ≤ k → k ≤ i → here ≡ any p (placesFrom at j (k - j)) → FoundFrom p at m i k (here || found)
+  from-block k l n e =
+      let more : k - m ≡ j - m + (k - j) = omega (arith, f .behind) in
+      let place : m + (j - m) ≡ j = omega (arith, f .behind) in
+      record { behind = omega (arith, f .behind); within = n; is = rw (more, any-joined p at m (j - m) (k - j), place, e, f .is) }
 
   pub from-end : i ≤ j → found ≡ any p (placesFrom at m (i - m))
   from-end l = let z : i ≡ j = omega (arith, f .within) in rw z (f .is)

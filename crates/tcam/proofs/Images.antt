@@ -1,5 +1,6 @@
--- The image test: what is kept of the slots before slot i tells which rules it breaks, and the slots before it break none.
-use Prim.Native.Nat.{ℕ, _+_, _-_, _≤_, _<_, min}
+-- The image test: what is kept of the slots before slot i tells which rules it breaks, and the slots before it break none; a run of free
+-- slots keeps both. Then the count of the used slots.
+use Prim.Native.Nat.{ℕ, zero, suc, _+_, _-_, _≤_, _<_, min}
 use mathlib.Core.Path.{_≡_, refl, sym, ap, _∙_}
 use mathlib.Core.Bool.{Bool, true, false, cond, not, _&&_, _||_, or-false}
 use mathlib.Core.List.{List, [], _∷_}
@@ -7,13 +8,15 @@ use native.Mathlib.Omega.{arith}
 use native.Mathlib.Numerals.{add-one}
 use lib.Dec.{ltb}
 use lib.ListN.{length, drop, drop-of-length-le}
-use borrow.Author.Tests.{le-ltb}
+use borrow.Author.Tests.{le-ltb, not-false}
 use Rattle.route.specs.Refusals.{fine, fault, imageRefusal}
 use Rattle.route.specs.Lists.{any}
-use Rattle.route.specs.Loops.{before}
+use Rattle.route.specs.Loops.{before, placesFrom}
 use Rattle.tcam.specs.Slots.{Cell, cells, isFree, isUpper, lengthIn, keepsS1, longerThanNearest, samePrefixIn, breaks, imageFault, usedIn}
-use Rattle.tcam.specs.Loops.{cellAt, SeenBefore, SeenWith, misplacedBy}
+use Rattle.tcam.specs.Loops.{cellAt, isUsed, SeenBefore, SeenWith, misplacedBy, FreeEnd}
 use Rattle.tcam.specs.declared.image.Seen.{Seen}
+use Rattle.route.proofs.Tests.{or-parts}
+use Rattle.route.proofs.Searches.{FoundFrom, from-block}
 use Rattle.tcam.proofs.Rows.{cells-at, cells-in-both, cells-past}
 use Rattle.tcam.proofs.Cells.{used-short}
 
@@ -100,23 +103,93 @@ module _ {W : ℕ} {ad ts : List ℕ} {s : Seen} {i : ℕ} (h : ImageBefore W ad
   pub image-end : length ad ≤ i → fine ≡ imageFault W 0 [] (cells ad ts)
   image-end l = rw (drop-of-length-le ad l) at (h .left)
 
--- so many of the slots from slot i on are used
-pub record UsedFrom (ad ts : List ℕ) (used i : ℕ) : Type 0 where
-  pub within : used + i ≤ min (length ad) (length ts)
-  pub right : used ≡ usedIn (cells (drop i ad) (drop i ts))
+-- the slots from slot `from` up to slot j are free: they end at slot j where it is used or past the rows, else where those from slot j on
+-- end
+module _ {ad ts : List ℕ} {from j : ℕ} (h : FoundFrom isUsed (cellAt ad ts) from (length ad) j false) where
+  pub free-stop : {c : Cell} → c ≡ cellAt ad ts j → isFree c ≡ false → FreeEnd ad ts from j
+  free-stop is u = record { behind = h .behind; within = h .within; free = sym (h .is); used = λ l. rw is at u }
 
-pub used-start : {ad ts : List ℕ} {i : ℕ} → i ≡ min (length ad) (length ts) → UsedFrom ad ts 0 i
-used-start {ad} {ts} {i} e = record { within = omega arith; right = rw (cells-past ad ts i (omega arith)) }
+  pub free-none : length ad ≤ j → FreeEnd ad ts from j
+  free-none n = record { behind = h .behind; within = h .within; free = sym (h .is); used = λ l. absurd (omega arith) }
 
-module _ {ad ts : List ℕ} {used i : ℕ} (h : UsedFrom ad ts used i) where
-  pub used-turn : {c : Cell} {n : ℕ} → 0 < i → c ≡ cellAt ad ts (i - 1) → n ≡ cond (isFree c) 0 1 → n ≤ 1 → UsedFrom ad ts (used + n) (i - 1)
-  used-turn l is e one =
-      let back : i - 1 + 1 ≡ i = omega arith in
+  pub free-further : {r : ℕ} → FreeEnd ad ts j r → FreeEnd ad ts from r
+  free-further {r} e =
+      let g = from-block h r (e .behind) (e .within) (sym (e .free)) in
+      record { behind = g .behind; within = e .within; free = sym (g .is); used = e .used }
+
+-- where a slot before is free and none is below the pool, a run of free slots breaks no rule and leaves what was seen
+seen-same : {W : ℕ} {s : Seen} {c : Cell} → s .free ≡ true → s .lower ≡ false → isFree c ≡ true → SeenWith W c s s
+seen-same f l e = record { nearest = rw e; free = rw (e, f); lower = rw (e, l) }
+
+module _ {W : ℕ} {ad ts : List ℕ} {s : Seen} {i : ℕ} (h : ImageBefore W ad ts s i) where
+  image-run : s .free ≡ true → s .lower ≡ false → (k : ℕ) → i + k ≤ length ad → any isUsed (placesFrom (cellAt ad ts) i k) ≡ false →
+      ImageBefore W ad ts s (i + k)
+  image-run f l zero n e = let z : i + 0 ≡ i = omega arith in rw z h
+  image-run f l (suc k) n e =
+      let c = cellAt ad ts (i + k) in
+      let parts = or-parts (isUsed c) _ e in
+      let here = not-false (isFree c) (parts .0) in
+      let b = image-run f l k (omega arith) (parts .1) in
+      let z : i + suc k ≡ i + k + 1 = omega arith in
+      rw z (image-turn b (omega arith) refl (breaks-free (b .seen) c (sym (misplaced-free W c s here) ∙ l) here) refl (seen-same f l here))
+
+  pub image-pass : {r : ℕ} → (not (s .free) || s .lower) ≡ false → FreeEnd ad ts i r → ImageBefore W ad ts s r
+  image-pass {r} pool e =
+      let parts = or-parts (not (s .free)) (s .lower) pool in
+      let z : i + (r - i) ≡ r = omega (arith, e .behind) in
+      rw z at (image-run (not-false (s .free) (parts .0)) (parts .1) (r - i) (omega (arith, e .behind, e .within)) (e .free))
+
+-- so many of the slots from slot `from` up to slot j are used
+pub record UsedFrom (ad ts : List ℕ) (from to j used : ℕ) : Type 0 where
+  pub behind : from ≤ j
+  pub within : j ≤ to
+  pub few : used ≤ j - from
+  pub is : used ≡ usedIn (placesFrom (cellAt ad ts) from (j - from))
+
+pub used-start : {ad ts : List ℕ} {from to : ℕ} → from ≤ to → UsedFrom ad ts from to from 0
+used-start {from = from} l = let z : from - from ≡ 0 = omega arith in record { behind = omega arith; within = l; few = omega arith; is = rw z }
+
+module _ {ad ts : List ℕ} {from to j used : ℕ} (h : UsedFrom ad ts from to j used) where
+  pub used-turn : {c : Cell} {n : ℕ} → j < to → c ≡ cellAt ad ts j → n ≡ cond (isFree c) 0 1 → n ≤ 1 → UsedFrom ad ts from to (j + 1) (used + n)
+  used-turn {c} {n} l is e one =
+      let more : j + 1 - from ≡ suc (j - from) = omega (arith, h .behind) in
+      let place : from + (j - from) ≡ j = omega (arith, h .behind) in
       let here = rw is at e in
       record {
+        behind = omega (arith, h .behind);
         within = omega arith;
-        right = rw (cells-in-both ad ts (i - 1) (omega (arith, h .within)) (omega (arith, h .within)), back) (omega (arith, here, h .right));
+        few = omega (arith, h .behind, h .few);
+        is = rw (more, place) (omega (arith, here, h .is));
       }
 
-  pub used-end : i ≤ 0 → used ≡ usedIn (cells ad ts)
-  used-end l = let z : i ≡ 0 = omega arith in rw z at (h .right)
+  pub used-end : to ≤ j → (used ≡ usedIn (placesFrom (cellAt ad ts) from (to - from))) × (used ≤ to - from)
+  used-end l = let z : to ≡ j = omega (arith, h .within) in rw z (h .is, h .few)
+
+-- the used slots from slot i on are those of k slots and those behind them
+used-parts : (ad ts : List ℕ) (i k : ℕ) → i + k ≤ min (length ad) (length ts) →
+    usedIn (cells (drop i ad) (drop i ts)) ≡ usedIn (placesFrom (cellAt ad ts) i k) + usedIn (cells (drop (i + k) ad) (drop (i + k) ts))
+used-parts ad ts i zero l = let z : i + 0 ≡ i = omega arith in rw z (omega arith)
+used-parts ad ts i (suc k) l =
+    let z : i + suc k ≡ i + k + 1 = omega arith in
+    let e = rw (cells-in-both ad ts (i + k) (omega arith) (omega arith)) at (used-parts ad ts i k (omega arith)) in
+    rw z (omega (arith, e))
+
+-- so many of the slots before slot i are used
+pub record UsedBefore (ad ts : List ℕ) (used i : ℕ) : Type 0 where
+  pub within : i ≤ min (length ad) (length ts)
+  pub few : used ≤ i
+  pub left : used + usedIn (cells (drop i ad) (drop i ts)) ≡ usedIn (cells ad ts)
+
+pub used-none : {ad ts : List ℕ} → UsedBefore ad ts 0 0
+used-none = record { within = omega arith; few = omega arith; left = omega arith }
+
+module _ {ad ts : List ℕ} {used i : ℕ} (h : UsedBefore ad ts used i) where
+  pub used-pass : {n : ℕ} (to : ℕ) → i ≤ to → to ≤ min (length ad) (length ts) →
+      (n ≡ usedIn (placesFrom (cellAt ad ts) i (to - i))) × (n ≤ to - i) → UsedBefore ad ts (used + n) to
+  used-pass to l m e =
+      let z : i + (to - i) ≡ to = omega arith in
+      let parts = rw z at (used-parts ad ts i (to - i) (omega arith)) in
+      record { within = m; few = omega (arith, h .few, e .1); left = omega (arith, parts, e .0, h .left) }
+
+  pub used-all : min (length ad) (length ts) ≤ i → used ≡ usedIn (cells ad ts)
+  used-all l = let e = rw (cells-past ad ts i l) at (h .left) in omega (arith, e)

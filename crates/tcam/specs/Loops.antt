@@ -1,5 +1,5 @@
 -- What the contracts of leaves and of loops speak of. No promise of a public call cites it.
-use Prim.Native.Nat.{ℕ, zero, suc, _+_, _-_, _*_, _/_, _≤_}
+use Prim.Native.Nat.{ℕ, zero, suc, _+_, _-_, _*_, _/_, _≤_, _<_}
 use mathlib.Core.Path.{_≡_}
 use mathlib.Core.Bool.{Bool, true, false, cond, not, _&&_, _||_}
 use mathlib.Core.List.{List, [], _∷_}
@@ -8,6 +8,7 @@ use lib.Dec.{ltb, leb}
 use lib.ListN.{length, getD}
 use Rattle.route.specs.Refusals.{fine}
 use Rattle.route.specs.Lists.{any}
+use Rattle.route.specs.Loops.{placesFrom}
 use Rattle.tcam.specs.Slots.{Cell, cell, cells, maxSlots, slotFault, isFree, isUpper, isLower, lengthIn, keepsS1, longerThanNearest}
 use Rattle.tcam.specs.Plans.{Write, write, firstSlot, lastSlot, ofLength, rising, falling, isSome, chain}
 use Rattle.tcam.specs.declared.image.Seen.{Seen}
@@ -41,6 +42,16 @@ misplacedBy W c seen =
     || (not (isFree c) && ltb (seen .nearest .0) (lengthIn c))
     || (isUpper W c && seen .free)
     || (isFree c && seen .lower)
+
+abbrev pub isUsed : Cell → Bool
+isUsed c = not (isFree c)
+
+-- the slots from slot `from` up to slot r are free, and slot r is used or the rows end there
+pub record FreeEnd (ad ts : List ℕ) (from r : ℕ) : Type 0 where
+  pub behind : from ≤ r
+  pub within : r ≤ length ad
+  pub free : any isUsed (placesFrom (cellAt ad ts) from (r - from)) ≡ false
+  pub used : r < length ad → isFree (cellAt ad ts r) ≡ false
 
 -- the four runs of lengths are one: the first slots of rising lengths, or the last slots of falling ones
 abbrev pub edge : Bool → (Cell → Bool) → List Cell → Option ℕ

@@ -2,18 +2,20 @@
 //
 // One pass in rising order keeps what S2 to S4 ask of the slots before: the nearest used one's
 // length, whether one is free, whether one is below the pool. S5 compares a used slot with those
-// before it, and only where it breaks none of the other rules.
+// before it, and only where it breaks none of the other rules. A free slot right behind a free one
+// breaks a rule only where that one does, so the pool is passed over block by block.
 ghost use mathlib.Core.Path.{_≡_};
 ghost use mathlib.Core.Bool.{false};
-ghost use Prim.Native.Nat.{_≤_, _<_};
+ghost use Prim.Native.Nat.{_+_, _-_, _≤_};
 ghost use mathlib.Core.List.{[]};
 ghost use lib.ListN.{length};
 ghost use Rattle.route.specs.Lists.{any};
-ghost use Rattle.route.specs.Loops.{before};
+ghost use Rattle.route.specs.Loops.{before, placesFrom};
 ghost use Rattle.route.specs.Shown.{verdictOf, counted};
-ghost use Rattle.tcam.specs.Slots.{cells, samePrefixIn, breaks, imageFault, tableFault, usedIn, slotCheck};
+ghost use Rattle.tcam.specs.Slots.{maxSlots, cells, samePrefixIn, breaks, imageFault, tableFault, usedIn, slotCheck};
 ghost use Rattle.tcam.specs.Shown.{cellOf};
-ghost use Rattle.tcam.specs.Loops.{cellAt, misplacedBy, SeenBefore, SeenWith};
+ghost use Rattle.tcam.specs.Loops.{cellAt, isUsed, misplacedBy, SeenBefore, SeenWith, FreeEnd};
+use crate::MAX_SLOTS;
 use crate::slots::Cell;
 use crate::slots::cell_at;
 use crate::slots::size_check;
@@ -24,7 +26,7 @@ use route::Refusal;
 use route::Slot;
 use route::lesser;
 
-// How many slots S5 compares before it looks whether one was found.
+// How many slots are compared before it is asked whether one was found.
 const BLOCK: usize = 64;
 
 // What stands before a slot, as far as S2 to S4 ask.
@@ -116,7 +118,56 @@ fn breaks_rule(addresses: &[u32], tags: &[u32], seen: Seen, i: Slot, c: Cell) ->
     stands_before(addresses, tags, i, c)
 }
 
-// Refusal 7 of an update.
+// Whether a slot from slot `from` up to slot `to` is used. The loop has no exit, so that several slots
+// are tested at once.
+fn used_among(addresses: &[u32], tags: &[u32], from: Slot, to: Slot) -> bool
+    requires { ⌜ (length (now addresses) ≡ length (now tags)) × (from .0 ≤ to .0) × (to .0 ≤ length (now addresses)) ⌝ }
+    ensures { λ r. ⌜ r ≡ any isUsed (placesFrom (cellAt (now (addresses .entry)) (now (tags .entry))) (from .0) (to .0 - from .0)) ⌝ }
+{
+    let end = to.0;
+    let mut found = false;
+    let mut j = from.0;
+    while j < end {
+        found = !cell_at(addresses, tags, Slot(j)).is_free() | found;
+        j += 1;
+    }
+    found
+}
+
+// The first used slot from slot `from` on, or the number of slots, slot by slot.
+fn first_used(addresses: &[u32], tags: &[u32], from: Slot) -> Slot
+    requires { ⌜ (length (now addresses) ≡ length (now tags)) × (from .0 ≤ length (now addresses)) ⌝ }
+    ensures { λ r. ⌜ FreeEnd (now (addresses .entry)) (now (tags .entry)) (from .0) (r .0) ⌝ }
+{
+    let mut j = from.0;
+    while j < addresses.len() {
+        if !cell_at(addresses, tags, Slot(j)).is_free() {
+            return Slot(j);
+        }
+        j += 1;
+    }
+    Slot(j)
+}
+
+// The same, block by block, and slot by slot in the first block that has a used slot.
+fn free_end(addresses: &[u32], tags: &[u32], from: Slot) -> Slot
+    requires { ⌜ (length (now addresses) ≡ length (now tags)) × (from .0 ≤ length (now addresses)) ⌝ }
+    ensures { λ r. ⌜ FreeEnd (now (addresses .entry)) (now (tags .entry)) (from .0) (r .0) ⌝ }
+{
+    let end = addresses.len();
+    let mut j = from.0;
+    while j < end {
+        let to = lesser(j + BLOCK, end);
+        if used_among(addresses, tags, Slot(j), Slot(to)) {
+            return first_used(addresses, tags, Slot(j));
+        }
+        j = to;
+    }
+    Slot(j)
+}
+
+// Refusal 7 of an update. Where a slot before is free and none is below the pool, free slots break no
+// rule and change nothing of what was seen.
 fn image_check(addresses: &[u32], tags: &[u32]) -> Check
     requires { ⌜ length (now addresses) ≡ length (now tags) ⌝ }
     ensures { λ r. ⌜ verdictOf r ≡ imageFault 32 0 [] (cells (now (addresses .entry)) (now (tags .entry))) ⌝ }
@@ -134,19 +185,44 @@ fn image_check(addresses: &[u32], tags: &[u32]) -> Check
         }
         seen = seen.with(c);
         i += 1;
+        if !seen.free | seen.lower {
+            continue;
+        }
+        let next = free_end(addresses, tags, Slot(i));
+        i = next.0;
     }
     Check::Fine
 }
 
-// How many slots are used. The longer of two rows of unequal length has no slots past the shorter.
+// How many slots from slot `from` up to slot `to` are used. With a count of 32 bits several slots are
+// counted at once.
+fn used_between(addresses: &[u32], tags: &[u32], from: Slot, to: Slot) -> u32
+    requires { ⌜ (to .0 ≤ length (now addresses)) × (to .0 ≤ length (now tags)) × (from .0 ≤ to .0) × (to .0 ≤ from .0 + maxSlots) ⌝ }
+    ensures { λ r. ⌜ (r ≡ usedIn (placesFrom (cellAt (now (addresses .entry)) (now (tags .entry))) (from .0) (to .0 - from .0))) × (r ≤ to .0 - from .0) ⌝ }
+{
+    let end = to.0;
+    let mut used: u32 = 0;
+    let mut j = from.0;
+    while j < end {
+        used += cell_at(addresses, tags, Slot(j)).uses();
+        j += 1;
+    }
+    used
+}
+
+// How many slots are used, by parts as long as the longest table. The longer of two rows of unequal
+// length has no slots past the shorter.
 pub fn used_slots(addresses: &[u32], tags: &[u32]) -> usize
     ensures { λ r. ⌜ r ≡ usedIn (cells (now (addresses .entry)) (now (tags .entry))) ⌝ }
 {
+    let end = lesser(addresses.len(), tags.len());
     let mut used = 0;
-    let mut i = lesser(addresses.len(), tags.len());
-    while 0 < i {
-        i -= 1;
-        used += cell_at(addresses, tags, Slot(i)).uses();
+    let mut i = 0;
+    while i < end {
+        let to = lesser(i + MAX_SLOTS, end);
+        let more = used_between(addresses, tags, Slot(i), Slot(to));
+        used += more as usize;
+        i = to;
     }
     used
 }

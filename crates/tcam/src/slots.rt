@@ -32,7 +32,7 @@ impl Cell {
     }
 
     // How many slots it uses: 1, or 0 where it is free.
-    pub fn uses(self) -> usize
+    pub fn uses(self) -> u32
         ensures { λ r. ⌜ (r ≡ cond (isFree (cellOf self)) 0 1) × (r ≤ 1) ⌝ }
     {
         if self.is_free() { 0 } else { 1 }
