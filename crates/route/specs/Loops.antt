@@ -6,7 +6,9 @@ use mathlib.Core.List.{List, [], _∷_}
 use lib.Dec.{eqb}
 use lib.ListN.{getD}
 use Rattle.route.specs.Rule.{Route, route, span, Match, nothing, best}
+use Rattle.route.specs.Lists.{hasPrefix}
 use Rattle.route.specs.Shown.{routeOf}
+use Rattle.route.specs.declared.Prefix.{Prefix}
 use Rattle.route.specs.declared.list.Best.{Best}
 use Rattle.route.specs.declared.list.Best.the-variants.{Nowhere, At}
 
@@ -32,6 +34,10 @@ sameAddress r s = eqb (r .address) (s .address)
 -- entry i of a list
 abbrev pub routeAt : List ℕ → List ℕ → List ℕ → ℕ → Route
 routeAt ad ns hs i = route (getD ad i 0) (getD ns i 0) (getD hs i 0)
+
+-- whether an entry of a list before entry i has the prefix of p
+abbrev pub hasEarlier : List ℕ → List ℕ → List ℕ → Prefix → ℕ → Bool
+hasEarlier ad ns hs p i = hasPrefix (routeOf p) (before (routeAt ad ns hs) i)
 
 -- the longest match so far
 abbrev pub matchOf : Best → Match

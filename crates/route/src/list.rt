@@ -10,9 +10,9 @@ ghost use Prim.Native.Nat.{_-_, _≤_, _<_};
 ghost use mathlib.Core.List.{[]};
 ghost use lib.ListN.{length};
 ghost use Rattle.route.specs.Rule.{improved, longest};
-ghost use Rattle.route.specs.Lists.{routes, samePrefix, any, hasPrefix, listFault, listCheck, listLookup, EqualRows};
+ghost use Rattle.route.specs.Lists.{routes, samePrefix, any, listFault, listCheck, listLookup, EqualRows};
 ghost use Rattle.route.specs.Shown.{routeOf, verdictOf, counted, shown};
-ghost use Rattle.route.specs.Loops.{before, placesFrom, sameAddress, routeAt, matchOf};
+ghost use Rattle.route.specs.Loops.{placesFrom, sameAddress, routeAt, hasEarlier, matchOf};
 use crate::Check;
 use crate::Counted;
 use crate::Found;
@@ -128,8 +128,8 @@ fn prefix_among(
     p: Prefix,
 ) -> bool
     requires { ⌜ EqualRows (now addresses) (now lengths) (now hops) × (from ≤ to) × (to ≤ length (now addresses)) ⌝ }
-    requires { ⌜ hasPrefix (routeOf p) (before (routeAt (now addresses) (now lengths) (now hops)) from) ≡ false ⌝ }
-    ensures { λ r. ⌜ r ≡ hasPrefix (routeOf p) (before (routeAt (now (addresses .entry)) (now (lengths .entry)) (now (hops .entry))) to) ⌝ }
+    requires { ⌜ hasEarlier (now addresses) (now lengths) (now hops) p from ≡ false ⌝ }
+    ensures { λ r. ⌜ r ≡ hasEarlier (now (addresses .entry)) (now (lengths .entry)) (now (hops .entry)) p to ⌝ }
 {
     let mut found = false;
     let mut j = from;
@@ -150,8 +150,8 @@ fn stands_among(
     p: Prefix,
 ) -> bool
     requires { ⌜ EqualRows (now addresses) (now lengths) (now hops) × (from ≤ to) × (to ≤ length (now addresses)) ⌝ }
-    requires { ⌜ hasPrefix (routeOf p) (before (routeAt (now addresses) (now lengths) (now hops)) from) ≡ false ⌝ }
-    ensures { λ r. ⌜ r ≡ hasPrefix (routeOf p) (before (routeAt (now (addresses .entry)) (now (lengths .entry)) (now (hops .entry))) to) ⌝ }
+    requires { ⌜ hasEarlier (now addresses) (now lengths) (now hops) p from ≡ false ⌝ }
+    ensures { λ r. ⌜ r ≡ hasEarlier (now (addresses .entry)) (now (lengths .entry)) (now (hops .entry)) p to ⌝ }
 {
     if address_among(addresses, lengths, hops, from, to, p) {
         return prefix_among(addresses, lengths, hops, from, to, p);
