@@ -1,10 +1,8 @@
 -- A search among what stands before a place, made block by block and left at the first block in which something has the property.
 use Prim.Native.Nat.{ℕ, zero, suc, _+_, _-_, _≤_, _<_}
-use mathlib.Core.Path.{_≡_, sym, _∙_}
-use mathlib.Core.Logic.{⊎-elim}
-use mathlib.Core.Bool.{Bool, true, false, _||_, or-true, or-assoc}
-use native.Mathlib.Nat.{le-of-suc-le-suc, eq-or-lt-of-le}
-use native.Mathlib.Numerals.{add-one}
+use mathlib.Core.Path.{_≡_, refl, sym, _∙_}
+use mathlib.Core.Bool.{Bool, true, false, _||_, or-true, or-false, or-assoc}
+use mathlib.Core.List.{List, [], _∷_}
 use native.Mathlib.Omega.{arith}
 use Rattle.route.specs.Lists.{any}
 use Rattle.route.specs.Loops.{before, placesFrom}
@@ -19,25 +17,14 @@ module _ {A : Type 0} {p : A → Bool} {at : ℕ → A} {i j : ℕ} (u : NoneBef
   pub none-end : i ≤ j → any p (before at i) ≡ false
   none-end l = let z : i ≡ j = omega arith in rw z (u .none)
 
--- what stands before a place stands before each later one
-any-later : {A : Type 0} (p : A → Bool) (at : ℕ → A) (i j : ℕ) → j ≤ i → any p (before at j) ≡ true → any p (before at i) ≡ true
-any-later p at zero j l e = let z : j ≡ 0 = omega arith in rw z at e
-any-later p at (suc i) j l e =
-    ⊎-elim (λ (q : j ≡ suc i). rw q at e) (λ (k : j < suc i). rw (any-later p at i j (le-of-suc-le-suc k) e, or-true)) (eq-or-lt-of-le l)
+-- what stands before place m + k stands before place m or at the k places from it on
+any-before : {A : Type 0} (p : A → Bool) (at : ℕ → A) (m k : ℕ) → any p (before at (m + k)) ≡ (any p (placesFrom at m k) || any p (before at m))
+any-before p at m zero = let z : m + 0 ≡ m = omega arith in rw z
+any-before p at m (suc k) =
+    let z : m + suc k ≡ suc (m + k) = omega arith in
+    rw (z, any-before p at m k) (sym (or-assoc (p (at (m + k))) _ _))
 
--- a block: `found` says whether what stands before place j has the property
-pub record FoundBefore {A : Type 0} (p : A → Bool) (at : ℕ → A) (i j : ℕ) (found : Bool) : Type 0 where
-  pub within : j ≤ i
-  pub is : found ≡ any p (before at j)
-
-module _ {A : Type 0} {p : A → Bool} {at : ℕ → A} {i j : ℕ} {found : Bool} (f : FoundBefore p at i j found) where
-  pub found-turn : {here : Bool} {x : A} → j < i → x ≡ at j → here ≡ p x → FoundBefore p at i (j + 1) (here || found)
-  found-turn l q e = record { within = omega arith; is = rw (add-one, e, q, f .is) }
-
-  pub found-end : i ≤ j → found ≡ any p (before at i)
-  found-end l = let z : i ≡ j = omega arith in rw z (f .is)
-
--- a block by itself: `found` says whether what stands from place m up to place j has the property
+-- a block: `found` says whether what stands from place m up to place j has the property
 pub record FoundFrom {A : Type 0} (p : A → Bool) (at : ℕ → A) (m i j : ℕ) (found : Bool) : Type 0 where
   pub behind : m ≤ j
   pub within : j ≤ i
@@ -71,25 +58,24 @@ module _ {A : Type 0} {p : A → Bool} {at : ℕ → A} {m i j : ℕ} {found : B
   pub from-end : i ≤ j → found ≡ any p (placesFrom at m (i - m))
   from-end l = let z : i ≡ j = omega (arith, f .within) in rw z (f .is)
 
--- a block in which nothing has a weaker property
-none-from : {A : Type 0} (p q : A → Bool) (at : ℕ → A) (m k : ℕ) → ((x : A) → q x ≡ false → p x ≡ false) →
-    any q (placesFrom at m k) ≡ false → any p (before at m) ≡ false → any p (before at (m + k)) ≡ false
-none-from p q at m zero weaker e n = let z : m + 0 ≡ m = omega arith in rw z n
-none-from p q at m (suc k) weaker e n =
-    let z : m + suc k ≡ suc (m + k) = omega arith in
-    let parts = or-parts (q (at (m + k))) (any q (placesFrom at m k)) e in
-    rw (z, weaker (at (m + k)) (parts .0)) (none-from p q at m k weaker (parts .1) n)
+-- where nothing has a weaker property, nothing has the property
+pub none-weaker : {A : Type 0} (p q : A → Bool) (xs : List A) → ((x : A) → q x ≡ false → p x ≡ false) → any q xs ≡ false → any p xs ≡ false
+none-weaker p q [] weaker e = refl
+none-weaker p q (x ∷ xs) weaker e =
+    let parts = or-parts (q x) (any q xs) e in
+    rw (weaker x (parts .0)) (none-weaker p q xs weaker (parts .1))
 
-pub none-behind : {A : Type 0} (p q : A → Bool) (at : ℕ → A) (m i : ℕ) → m ≤ i → ((x : A) → q x ≡ false → p x ≡ false) →
-    any q (placesFrom at m (i - m)) ≡ false → any p (before at m) ≡ false → any p (before at i) ≡ false
-none-behind p q at m i l weaker e n =
-    let z : i ≡ m + (i - m) = omega arith in
-    rw z (none-from p q at m (i - m) weaker e n)
+-- a search that has come to place j, behind a block from there up to place m
+module _ {A : Type 0} {p : A → Bool} {at : ℕ → A} {i j : ℕ} (u : NoneBefore p at i j) (m : ℕ) (f : j ≤ m) (l : m ≤ i) {found : Bool} (is : found ≡ any p (placesFrom at j (m - j))) where
+  by-block : any p (before at m) ≡ found
+  by-block =
+      let z : j + (m - j) ≡ m = omega arith in
+      (rw (z, u .none) at (any-before p at j (m - j))) ∙ or-false _ ∙ sym is
 
--- a search that has come to place j, behind a block up to place m
-module _ {A : Type 0} {p : A → Bool} {at : ℕ → A} {i j : ℕ} (u : NoneBefore p at i j) (m : ℕ) (l : m ≤ i) {found : Bool} (is : found ≡ any p (before at m)) where
   pub block-hit : found ≡ true → any p (before at i) ≡ true
-  block-hit e = any-later p at i m l (sym is ∙ e)
+  block-hit e =
+      let z : m + (i - m) ≡ i = omega arith in
+      (rw (z, by-block ∙ e) at (any-before p at m (i - m))) ∙ or-true (any p (placesFrom at m (i - m)))
 
   pub block-turn : found ≡ false → NoneBefore p at i m
-  block-turn e = record { within = l; none = sym is ∙ e }
+  block-turn e = record { within = l; none = by-block ∙ e }

@@ -1,18 +1,16 @@
 // The plain answer over a lent list: rows of addresses, lengths and hops, in any order.
 //
 // A list is tested whole before it answers: its size, then entry by entry the entry's own numbers
-// and whether an earlier entry has its prefix. Earlier entries are compared block by block: a loop over
-// a block has no exit, so that several entries are compared at once. The longest match is found from
-// the list's end.
+// and whether an earlier entry has its prefix. Earlier entries are compared block by block. The longest
+// match is found from the list's end.
 ghost use mathlib.Core.Path.{_≡_};
-ghost use mathlib.Core.Bool.{false};
-ghost use Prim.Native.Nat.{_-_, _≤_, _<_};
+ghost use Prim.Native.Nat.{_≤_, _<_};
 ghost use mathlib.Core.List.{[]};
 ghost use lib.ListN.{length};
 ghost use Rattle.route.specs.Rule.{improved, longest};
 ghost use Rattle.route.specs.Lists.{routes, samePrefix, any, listFault, listCheck, listLookup, EqualRows};
 ghost use Rattle.route.specs.Shown.{routeOf, verdictOf, counted, shown};
-ghost use Rattle.route.specs.Loops.{placesFrom, sameAddress, routeAt, hasEarlier, matchOf};
+ghost use Rattle.route.specs.Loops.{sameIn, routeAt, entriesFrom, matchOf};
 use crate::Check;
 use crate::Counted;
 use crate::Found;
@@ -83,64 +81,38 @@ fn entry_at(addresses: &[u32], lengths: &[u32], hops: &[u32], i: usize) -> Prefi
     }
 }
 
-// Whether two entries have one address.
-fn has_address(p: Prefix, o: Prefix) -> bool
-    ensures { λ r. ⌜ r ≡ sameAddress (routeOf p) (routeOf o) ⌝ }
+// Whether two entries have one address and, where the whole prefix is asked for, one length.
+fn has_same(p: Prefix, o: Prefix, whole: bool) -> bool
+    ensures { λ r. ⌜ r ≡ sameIn whole (routeOf p) (routeOf o) ⌝ }
 {
-    p.address == o.address
+    (p.address == o.address) & (!whole | (p.length.0 == o.length.0))
 }
 
-// Whether two entries have one prefix.
-fn has_prefix(p: Prefix, o: Prefix) -> bool
-    ensures { λ r. ⌜ r ≡ samePrefix (routeOf p) (routeOf o) ⌝ }
-{
-    (p.address == o.address) & (p.length.0 == o.length.0)
-}
-
-// Whether one of the entries from entry `from` up to entry `to` has the address of p.
-fn address_among(
+// Whether one of the entries from entry `from` up to entry `to` has the address of p or, where it is
+// asked for, the whole prefix. The loop has no exit, so that several entries are compared at once.
+fn has_among(
     addresses: &[u32],
     lengths: &[u32],
     hops: &[u32],
     from: usize,
     to: usize,
     p: Prefix,
+    whole: bool,
 ) -> bool
     requires { ⌜ EqualRows (now addresses) (now lengths) (now hops) × (from ≤ to) × (to ≤ length (now addresses)) ⌝ }
-    ensures { λ r. ⌜ r ≡ any (sameAddress (routeOf p)) (placesFrom (routeAt (now (addresses .entry)) (now (lengths .entry)) (now (hops .entry))) from (to - from)) ⌝ }
+    ensures { λ r. ⌜ r ≡ any (sameIn whole (routeOf p)) (entriesFrom (now (addresses .entry)) (now (lengths .entry)) (now (hops .entry)) from to) ⌝ }
 {
     let mut found = false;
     let mut j = from;
     while j < to {
-        found = has_address(p, entry_at(addresses, lengths, hops, j)) | found;
+        found = has_same(p, entry_at(addresses, lengths, hops, j), whole) | found;
         j += 1;
     }
     found
 }
 
-// Whether an entry before entry `to` has the prefix of p, where none before entry `from` does.
-fn prefix_among(
-    addresses: &[u32],
-    lengths: &[u32],
-    hops: &[u32],
-    from: usize,
-    to: usize,
-    p: Prefix,
-) -> bool
-    requires { ⌜ EqualRows (now addresses) (now lengths) (now hops) × (from ≤ to) × (to ≤ length (now addresses)) ⌝ }
-    requires { ⌜ hasEarlier (now addresses) (now lengths) (now hops) p from ≡ false ⌝ }
-    ensures { λ r. ⌜ r ≡ hasEarlier (now (addresses .entry)) (now (lengths .entry)) (now (hops .entry)) p to ⌝ }
-{
-    let mut found = false;
-    let mut j = from;
-    while j < to {
-        found = has_prefix(p, entry_at(addresses, lengths, hops, j)) | found;
-        j += 1;
-    }
-    found
-}
-
-// As `prefix_among`, by the row of addresses alone where no entry of the block has the address of p.
+// Whether one of the entries from entry `from` up to entry `to` has the prefix of p. Lengths are compared
+// only where one of them has its address.
 fn stands_among(
     addresses: &[u32],
     lengths: &[u32],
@@ -150,11 +122,10 @@ fn stands_among(
     p: Prefix,
 ) -> bool
     requires { ⌜ EqualRows (now addresses) (now lengths) (now hops) × (from ≤ to) × (to ≤ length (now addresses)) ⌝ }
-    requires { ⌜ hasEarlier (now addresses) (now lengths) (now hops) p from ≡ false ⌝ }
-    ensures { λ r. ⌜ r ≡ hasEarlier (now (addresses .entry)) (now (lengths .entry)) (now (hops .entry)) p to ⌝ }
+    ensures { λ r. ⌜ r ≡ any (samePrefix (routeOf p)) (entriesFrom (now (addresses .entry)) (now (lengths .entry)) (now (hops .entry)) from to) ⌝ }
 {
-    if address_among(addresses, lengths, hops, from, to, p) {
-        return prefix_among(addresses, lengths, hops, from, to, p);
+    if has_among(addresses, lengths, hops, from, to, p, false) {
+        return has_among(addresses, lengths, hops, from, to, p, true);
     }
     false
 }

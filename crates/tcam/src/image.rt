@@ -5,7 +5,6 @@
 // before it, and only where it breaks none of the other rules. A free slot right behind a free one
 // breaks a rule only where that one does, so the pool is passed over block by block.
 ghost use mathlib.Core.Path.{_≡_};
-ghost use mathlib.Core.Bool.{false};
 ghost use Prim.Native.Nat.{_+_, _-_, _≤_};
 ghost use mathlib.Core.List.{[]};
 ghost use lib.ListN.{length};
@@ -69,12 +68,11 @@ impl Seen {
     }
 }
 
-// Whether a slot before slot `to` holds the prefix of c, where none before slot `from` does. The loop
-// has no exit, so that several slots are compared at once.
+// Whether a slot from slot `from` up to slot `to` holds the prefix of c. The loop has no exit, so that
+// several slots are compared at once.
 fn stands_among(addresses: &[u32], tags: &[u32], from: Slot, to: Slot, c: Cell) -> bool
     requires { ⌜ (length (now addresses) ≡ length (now tags)) × (from .0 ≤ to .0) × (to .0 ≤ length (now addresses)) ⌝ }
-    requires { ⌜ any (samePrefixIn (cellOf c)) (before (cellAt (now addresses) (now tags)) (from .0)) ≡ false ⌝ }
-    ensures { λ r. ⌜ r ≡ any (samePrefixIn (cellOf c)) (before (cellAt (now (addresses .entry)) (now (tags .entry))) (to .0)) ⌝ }
+    ensures { λ r. ⌜ r ≡ any (samePrefixIn (cellOf c)) (placesFrom (cellAt (now (addresses .entry)) (now (tags .entry))) (from .0) (to .0 - from .0)) ⌝ }
 {
     let end = to.0;
     let mut found = false;
@@ -118,8 +116,7 @@ fn breaks_rule(addresses: &[u32], tags: &[u32], seen: Seen, i: Slot, c: Cell) ->
     stands_before(addresses, tags, i, c)
 }
 
-// Whether a slot from slot `from` up to slot `to` is used. The loop has no exit, so that several slots
-// are tested at once.
+// Whether a slot from slot `from` up to slot `to` is used, as `stands_among` does it.
 fn used_among(addresses: &[u32], tags: &[u32], from: Slot, to: Slot) -> bool
     requires { ⌜ (length (now addresses) ≡ length (now tags)) × (from .0 ≤ to .0) × (to .0 ≤ length (now addresses)) ⌝ }
     ensures { λ r. ⌜ r ≡ any isUsed (placesFrom (cellAt (now (addresses .entry)) (now (tags .entry))) (from .0) (to .0 - from .0)) ⌝ }

@@ -37,13 +37,10 @@ returns c =
 loop-holds : tie.Need-loop-holds Inv-loop μ-loop Inv-entries μ-entries
 loop-holds c = record { within = search needs; none = refl }
 
-stands-among-requires : tie.Need-stands-among-requires Inv-loop μ-loop Inv-entries μ-entries
-stands-among-requires c κs = ((search needs, search needs, search needs), c .before .before .loop .inv .none)
-
 loop-again : tie.Need-loop-again Inv-loop μ-loop Inv-entries μ-entries
 loop-again c =
     let b = c .before in
-    block-turn (b .before .before .before .loop .inv) (b .before .lesser .result) (search needs) (b .stands-among .ensures) (c .if1 .left)
+    block-turn (b .before .before .before .loop .inv) (b .before .lesser .result) (search needs) (search needs) (b .stands-among .ensures) (c .if1 .left)
 
 entries-again : tie.Need-entries-again Inv-loop μ-loop Inv-entries μ-entries
 entries-again c =
@@ -61,7 +58,7 @@ returns-2 c =
     (λ w.
     checked-twice (c .before .before .entries .inv) (search needs) (w .1 .ensures)
     (sym (ap verdictOf (w .4 .given .1)) ∙ w .2 .ensures)
-    (block-hit (w .5 .inv) (w .7 .result) (search needs) (w .8 .ensures) (w .9 .taken)))
+    (block-hit (w .5 .inv) (w .7 .result) (search needs) (search needs) (w .8 .ensures) (w .9 .taken)))
     (c .before .entries-test .came)
 
 returns-3 : tie.Need-returns-3 Inv-loop μ-loop Inv-entries μ-entries
@@ -73,5 +70,5 @@ entries-check-spec =
     (tie.spec
     Inv-loop μ-loop Inv-entries μ-entries entries-holds (λ c κs. search needs) (λ c κs. search needs)
     (λ c. search needs) returns (λ c. search needs) loop-holds (λ c. search needs) (λ c κs. search needs)
-    stands-among-requires (λ c. search needs) loop-again (λ c. search needs) (λ c. search needs) entries-again
+    (λ c κs. search needs) (λ c. search needs) loop-again (λ c. search needs) (λ c. search needs) entries-again
     returns-2 returns-3)

@@ -1,29 +1,28 @@
--- `found` says whether a slot before slot j holds the prefix. The measure is what is left up to the block's end.
+-- `found` says whether a slot of the block before slot j holds the prefix. The measure is what is left up to the block's end.
 use borrow.Author.Needs.{needs}
 use Prim.Native.Nat.{_-_}
-use mathlib.Core.Path.{sym}
 use Rattle.tcam.specs.Slots.{samePrefixIn}
 use Rattle.tcam.specs.Shown.{cellOf}
 use Rattle.tcam.specs.Loops.{cellAt}
-use Rattle.route.proofs.Searches.{FoundBefore, found-turn, found-end}
+use Rattle.route.proofs.Searches.{FoundFrom, from-start, from-turn, from-end}
 use Rattle.tcam.proofs.image.stands_among.Statement.{statement}
 use Rattle.tcam.proofs.image.stands_among.Tie as tie
 
 abbrev Inv-loop : tie.InvT-loop
-Inv-loop addresses tags c end found₀ j₀ found j = FoundBefore (samePrefixIn (cellOf c)) (cellAt addresses tags) end j found
+Inv-loop addresses tags c end found₀ j₀ found j = FoundFrom (samePrefixIn (cellOf c)) (cellAt addresses tags) j₀ end j found
 
 abbrev μ-loop : tie.MeasureT-loop
 μ-loop addresses tags c end found₀ j₀ found j = end - j
 
 loop-holds : tie.Need-loop-holds Inv-loop μ-loop
-loop-holds c = record { within = search needs; is = sym (c .before .before .pre .1) }
+loop-holds c = from-start (search needs)
 
 loop-again : tie.Need-loop-again Inv-loop μ-loop
 loop-again c =
-    found-turn (c .before .before .before .loop .inv) (search needs) (c .before .cell-at .ensures) (c .stands-in .ensures)
+    from-turn (c .before .before .before .loop .inv) (search needs) (c .before .cell-at .ensures) (c .stands-in .ensures)
 
 returns : tie.Need-returns Inv-loop μ-loop
-returns c = found-end (c .before .loop .inv) (search needs)
+returns c = from-end (c .before .loop .inv) (search needs)
 
 pub stands-among-spec : {M : Type 1} → statement M
 stands-among-spec =

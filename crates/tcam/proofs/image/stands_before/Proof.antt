@@ -18,18 +18,15 @@ abbrev μ-loop : tie.MeasureT-loop
 loop-holds : tie.Need-loop-holds Inv-loop μ-loop
 loop-holds c = record { within = search needs; none = refl }
 
-stands-among-requires : tie.Need-stands-among-requires Inv-loop μ-loop
-stands-among-requires c κs = ((search needs, search needs, search needs), c .before .before .loop .inv .none)
-
 returns : tie.Need-returns Inv-loop μ-loop
 returns c =
     let b = c .before in
-    sym (block-hit (b .before .before .before .loop .inv) (b .before .lesser .result) (search needs) (b .stands-among .ensures) (c .if1 .taken))
+    sym (block-hit (b .before .before .before .loop .inv) (b .before .lesser .result) (search needs) (search needs) (b .stands-among .ensures) (c .if1 .taken))
 
 loop-again : tie.Need-loop-again Inv-loop μ-loop
 loop-again c =
     let b = c .before in
-    block-turn (b .before .before .before .loop .inv) (b .before .lesser .result) (search needs) (b .stands-among .ensures) (c .if1 .left)
+    block-turn (b .before .before .before .loop .inv) (b .before .lesser .result) (search needs) (search needs) (b .stands-among .ensures) (c .if1 .left)
 
 returns-2 : tie.Need-returns-2 Inv-loop μ-loop
 returns-2 c = sym (none-end (c .before .loop .inv) (search needs))
@@ -38,5 +35,5 @@ pub stands-before-spec : {M : Type 1} → statement M
 stands-before-spec =
     tie.close
     (tie.spec
-    Inv-loop μ-loop loop-holds (λ c. search needs) (λ c κs. search needs) stands-among-requires returns
+    Inv-loop μ-loop loop-holds (λ c. search needs) (λ c κs. search needs) (λ c κs. search needs) returns
     (λ c. search needs) loop-again returns-2)
