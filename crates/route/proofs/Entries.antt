@@ -5,14 +5,17 @@ use mathlib.Core.Bool.{Bool, true, false}
 use mathlib.Core.List.{List, [], _∷_, List·Memᴰ·head, List·Memᴰ·tail, List·Memᴰ·not-nil}
 use native.Mathlib.Omega.{arith}
 use native.Mathlib.Numerals.{add-one}
+use borrow.Author.Tests.{eqb-true}
+use lib.Dec.{eqb}
 use lib.ListN.{length, drop, getD, drop-of-length-le}
 use lib.Seq.{drop-cons, drop-length}
 use Rattle.route.specs.Rule.{Route, route, matches, Match, nothing, improved, longest}
 use Rattle.route.specs.Refusals.{fine, fault, faultIf, _then_, entryFault, twiceRefusal}
-use Rattle.route.specs.Lists.{EqualRows, routes, hasPrefix, listFault}
+use Rattle.route.specs.Lists.{EqualRows, routes, samePrefix, hasPrefix, listFault}
 use Rattle.route.specs.RightHop.{_∈_}
 use Rattle.route.specs.Loops.{before, routeAt}
 use Rattle.route.proofs.Members.{eachOf}
+use Rattle.route.proofs.Tests.{and-parts}
 
 -- the entries from entry i on begin with entry i
 pub routes-at : (ad ns hs : List ℕ) (i : ℕ) → EqualRows ad ns hs → i < length ad →
@@ -104,3 +107,9 @@ module _ {W : ℕ} {ad ns hs : List ℕ} {i : ℕ} (s : CheckedBefore W ad ns hs
 
 pub checked-end : {W : ℕ} {ad ns hs : List ℕ} {i : ℕ} → CheckedBefore W ad ns hs i → length ad ≤ i → fine ≡ listFault W 0 [] (routes ad ns hs)
 checked-end {ad = ad} s l = rw (drop-of-length-le ad l) at (s .left)
+
+-- two entries of one prefix
+pub one-prefix : (r s : Route) → samePrefix r s ≡ true → (r .address ≡ s .address) × (r .length ≡ s .length)
+one-prefix r s e =
+    let p = and-parts (eqb (r .address) (s .address)) (eqb (r .length) (s .length)) e in
+    (eqb-true _ _ (p .0), eqb-true _ _ (p .1))

@@ -1,12 +1,12 @@
--- A search among what stands before a place, made block by block and left at the first block in which something has the property.
+-- A search among what stands before a place, one by one or block by block, left where something has the property.
 use Prim.Native.Nat.{ℕ, zero, suc, _+_, _-_, _≤_, _<_}
-use mathlib.Core.Path.{_≡_, refl, sym, _∙_}
+use mathlib.Core.Path.{_≡_, sym, _∙_}
 use mathlib.Core.Bool.{Bool, true, false, _||_, or-true, or-false, or-assoc}
 use mathlib.Core.List.{List, [], _∷_}
 use native.Mathlib.Omega.{arith}
+use native.Mathlib.Numerals.{add-one}
 use Rattle.route.specs.Lists.{any}
 use Rattle.route.specs.Loops.{before, placesFrom}
-use Rattle.route.proofs.Tests.{or-parts}
 
 -- the search for what stands before place i has come to place j, and nothing before that has the property
 pub record NoneBefore {A : Type 0} (p : A → Bool) (at : ℕ → A) (i j : ℕ) : Type 0 where
@@ -23,6 +23,16 @@ any-before p at m zero = let z : m + 0 ≡ m = omega arith in rw z
 any-before p at m (suc k) =
     let z : m + suc k ≡ suc (m + k) = omega arith in
     rw (z, any-before p at m k) (sym (or-assoc (p (at (m + k))) _ _))
+
+-- a search one place at a time; x is what stands at place j
+module _ {A : Type 0} {p : A → Bool} {at : ℕ → A} {i j : ℕ} (u : NoneBefore p at i j) (l : j < i) {x : A} (is : x ≡ at j) where
+  pub none-turn : p x ≡ false → NoneBefore p at i (j + 1)
+  none-turn e = record { within = omega arith; none = rw (add-one j, ← is, e) (u .none) }
+
+  pub none-hit : p x ≡ true → any p (before at i) ≡ true
+  none-hit e =
+      let z : suc j + (i - suc j) ≡ i = omega arith in
+      (rw (z, ← is, e) at (any-before p at (suc j) (i - suc j))) ∙ or-true (any p (placesFrom at (suc j) (i - suc j)))
 
 -- a block: `found` says whether what stands from place m up to place j has the property
 pub record FoundFrom {A : Type 0} (p : A → Bool) (at : ℕ → A) (m i j : ℕ) (found : Bool) : Type 0 where
@@ -57,13 +67,6 @@ module _ {A : Type 0} {p : A → Bool} {at : ℕ → A} {m i j : ℕ} {found : B
 
   pub from-end : i ≤ j → found ≡ any p (placesFrom at m (i - m))
   from-end l = let z : i ≡ j = omega (arith, f .within) in rw z (f .is)
-
--- where nothing has a weaker property, nothing has the property
-pub none-weaker : {A : Type 0} (p q : A → Bool) (xs : List A) → ((x : A) → q x ≡ false → p x ≡ false) → any q xs ≡ false → any p xs ≡ false
-none-weaker p q [] weaker e = refl
-none-weaker p q (x ∷ xs) weaker e =
-    let parts = or-parts (q x) (any q xs) e in
-    rw (weaker x (parts .0)) (none-weaker p q xs weaker (parts .1))
 
 -- a search that has come to place j, behind a block from there up to place m
 module _ {A : Type 0} {p : A → Bool} {at : ℕ → A} {i j : ℕ} (u : NoneBefore p at i j) (m : ℕ) (f : j ≤ m) (l : m ≤ i) {found : Bool} (is : found ≡ any p (placesFrom at j (m - j))) where

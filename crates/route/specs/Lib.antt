@@ -9,3 +9,4 @@ pub mod RowsOfSet
 -- What the code's enums show, and what only loops need.
 pub mod Shown
 pub mod Loops
+pub mod Filter

@@ -1,9 +1,7 @@
 -- What the contracts of leaves and of loops speak of. The contracts of the list's test and lookup cite none of it.
-use Prim.Native.Nat.{ℕ, zero, suc, _+_, _-_, _<_}
+use Prim.Native.Nat.{ℕ, zero, suc, _+_, _<_}
 use mathlib.Core.Path.{_≡_}
-use mathlib.Core.Bool.{Bool, not, _&&_, _||_}
 use mathlib.Core.List.{List, [], _∷_}
-use lib.Dec.{eqb}
 use lib.ListN.{getD}
 use Rattle.route.specs.Rule.{Route, route, span, Match, nothing, best}
 use Rattle.route.specs.Shown.{routeOf}
@@ -25,17 +23,9 @@ abbrev pub placesFrom : {A : Type 0} → (ℕ → A) → ℕ → ℕ → List A
 placesFrom at i zero = []
 placesFrom at i (suc k) = at (i + k) ∷ placesFrom at i k
 
--- one address and, where the whole prefix is asked for, one length
-abbrev pub sameIn : Bool → Route → Route → Bool
-sameIn whole r s = eqb (r .address) (s .address) && (not whole || eqb (r .length) (s .length))
-
 -- entry i of a list
 abbrev pub routeAt : List ℕ → List ℕ → List ℕ → ℕ → Route
 routeAt ad ns hs i = route (getD ad i 0) (getD ns i 0) (getD hs i 0)
-
--- the entries of a list from entry i up to entry j, the last first
-abbrev pub entriesFrom : List ℕ → List ℕ → List ℕ → ℕ → ℕ → List Route
-entriesFrom ad ns hs i j = placesFrom (routeAt ad ns hs) i (j - i)
 
 -- the longest match so far
 abbrev pub matchOf : Best → Match

@@ -6,6 +6,7 @@
 // through them.
 //
 // Where no prefix matches there is no next hop. That is a case, `Found::Nothing`, and never a hop.
+pub mod filter;
 pub mod list;
 pub mod rule;
 

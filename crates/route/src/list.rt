@@ -1,16 +1,16 @@
 // The plain answer over a lent list: rows of addresses, lengths and hops, in any order.
 //
 // A list is tested whole before it answers: its size, then entry by entry the entry's own numbers
-// and whether an earlier entry has its prefix. Earlier entries are compared block by block. The longest
-// match is found from the list's end.
+// and whether an earlier entry has its prefix. A filter is asked first, so that earlier entries are
+// hardly ever compared. The longest match is found from the list's end.
 ghost use mathlib.Core.Path.{_≡_};
 ghost use Prim.Native.Nat.{_≤_, _<_};
 ghost use mathlib.Core.List.{[]};
 ghost use lib.ListN.{length};
 ghost use Rattle.route.specs.Rule.{improved, longest};
-ghost use Rattle.route.specs.Lists.{routes, samePrefix, any, listFault, listCheck, listLookup, EqualRows};
+ghost use Rattle.route.specs.Lists.{routes, samePrefix, listFault, listCheck, listLookup, EqualRows};
 ghost use Rattle.route.specs.Shown.{routeOf, verdictOf, counted, shown};
-ghost use Rattle.route.specs.Loops.{sameIn, routeAt, entriesFrom, matchOf};
+ghost use Rattle.route.specs.Loops.{routeAt, matchOf};
 use crate::Check;
 use crate::Counted;
 use crate::Found;
@@ -19,11 +19,8 @@ use crate::Length;
 use crate::MAX_ROUTES;
 use crate::Prefix;
 use crate::Refusal;
-use crate::lesser;
+use crate::filter;
 use crate::rule;
-
-// How many earlier entries are compared before the test looks whether one was found.
-const BLOCK: usize = 64;
 
 // The longest match so far.
 enum Best {
@@ -46,7 +43,7 @@ pub fn check(addresses: &[u32], lengths: &[u32], hops: &[u32]) -> Counted
     if MAX_ROUTES < n {
         return Counted::Refused(Refusal::Size);
     }
-    match entries_check(addresses, lengths, hops) {
+    match rows_check(addresses, lengths, hops) {
         Check::Fault(f) => Counted::Refused(f),
         Check::Fine => Counted::Count(n),
     }
@@ -81,58 +78,17 @@ fn entry_at(addresses: &[u32], lengths: &[u32], hops: &[u32], i: usize) -> Prefi
     }
 }
 
-// Whether two entries have one address and, where the whole prefix is asked for, one length.
-fn has_same(p: Prefix, o: Prefix, whole: bool) -> bool
-    ensures { λ r. ⌜ r ≡ sameIn whole (routeOf p) (routeOf o) ⌝ }
+// Whether two entries have one prefix.
+fn has_prefix(p: Prefix, o: Prefix) -> bool
+    ensures { λ r. ⌜ r ≡ samePrefix (routeOf p) (routeOf o) ⌝ }
 {
-    (p.address == o.address) & (!whole | (p.length.0 == o.length.0))
+    (p.address == o.address) & (p.length.0 == o.length.0)
 }
 
-// Whether one of the entries from entry `from` up to entry `to` has the address of p or, where it is
-// asked for, the whole prefix. The loop has no exit, so that several entries are compared at once.
-fn has_among(
-    addresses: &[u32],
-    lengths: &[u32],
-    hops: &[u32],
-    from: usize,
-    to: usize,
-    p: Prefix,
-    whole: bool,
-) -> bool
-    requires { ⌜ EqualRows (now addresses) (now lengths) (now hops) × (from ≤ to) × (to ≤ length (now addresses)) ⌝ }
-    ensures { λ r. ⌜ r ≡ any (sameIn whole (routeOf p)) (entriesFrom (now (addresses .entry)) (now (lengths .entry)) (now (hops .entry)) from to) ⌝ }
-{
-    let mut found = false;
-    let mut j = from;
-    while j < to {
-        found = has_same(p, entry_at(addresses, lengths, hops, j), whole) | found;
-        j += 1;
-    }
-    found
-}
-
-// Whether one of the entries from entry `from` up to entry `to` has the prefix of p. Lengths are compared
-// only where one of them has its address.
-fn stands_among(
-    addresses: &[u32],
-    lengths: &[u32],
-    hops: &[u32],
-    from: usize,
-    to: usize,
-    p: Prefix,
-) -> bool
-    requires { ⌜ EqualRows (now addresses) (now lengths) (now hops) × (from ≤ to) × (to ≤ length (now addresses)) ⌝ }
-    ensures { λ r. ⌜ r ≡ any (samePrefix (routeOf p)) (entriesFrom (now (addresses .entry)) (now (lengths .entry)) (now (hops .entry)) from to) ⌝ }
-{
-    if has_among(addresses, lengths, hops, from, to, p, false) {
-        return has_among(addresses, lengths, hops, from, to, p, true);
-    }
-    false
-}
-
-// Entry by entry the refusals 1 to 4.
-fn entries_check(addresses: &[u32], lengths: &[u32], hops: &[u32]) -> Check
-    requires { ⌜ EqualRows (now addresses) (now lengths) (now hops) ⌝ }
+// Entry by entry the refusals 1 to 4. Where the filter says that an entry's prefix was not noted, no
+// earlier entry has it.
+fn entries_check(addresses: &[u32], lengths: &[u32], hops: &[u32], filter: &mut [u64]) -> Check
+    requires { ⌜ EqualRows (now addresses) (now lengths) (now hops) × (0 < length (now filter)) ⌝ }
     ensures { λ r. ⌜ verdictOf r ≡ listFault 32 0 [] (routes (now (addresses .entry)) (now (lengths .entry)) (now (hops .entry))) ⌝ }
 {
     let mut i = 0;
@@ -142,13 +98,14 @@ fn entries_check(addresses: &[u32], lengths: &[u32], hops: &[u32]) -> Check
         if let Check::Fault(f) = checked {
             return Check::Fault(f);
         }
-        let mut j = 0;
-        while j < i {
-            let to = lesser(j + BLOCK, i);
-            if stands_among(addresses, lengths, hops, j, to, p) {
-                break 'entries;
+        if filter::note(filter, p.address, p.length) {
+            let mut j = 0;
+            while j < i {
+                if has_prefix(p, entry_at(addresses, lengths, hops, j)) {
+                    break 'entries;
+                }
+                j += 1;
             }
-            j = to;
         }
         i += 1;
     }
@@ -156,6 +113,24 @@ fn entries_check(addresses: &[u32], lengths: &[u32], hops: &[u32]) -> Check
         return Check::Fault(Refusal::Twice(i));
     }
     Check::Fine
+}
+
+// The same with a filter of the call's own. It is cleared at every call, so there are three sizes of it.
+fn rows_check(addresses: &[u32], lengths: &[u32], hops: &[u32]) -> Check
+    requires { ⌜ EqualRows (now addresses) (now lengths) (now hops) ⌝ }
+    ensures { λ r. ⌜ verdictOf r ≡ listFault 32 0 [] (routes (now (addresses .entry)) (now (lengths .entry)) (now (hops .entry))) ⌝ }
+{
+    let n = addresses.len();
+    if n <= 64 {
+        let mut filter = [0u64; 16];
+        return entries_check(addresses, lengths, hops, &mut filter);
+    }
+    if n <= 1024 {
+        let mut filter = [0u64; 512];
+        return entries_check(addresses, lengths, hops, &mut filter);
+    }
+    let mut filter = [0u64; 4096];
+    entries_check(addresses, lengths, hops, &mut filter)
 }
 
 // The longest match of the entries after this one, or this one where it matches and is longer.

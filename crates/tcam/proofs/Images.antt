@@ -6,16 +6,18 @@ use mathlib.Core.Bool.{Bool, true, false, cond, not, _&&_, _||_, or-false}
 use mathlib.Core.List.{List, [], _∷_}
 use native.Mathlib.Omega.{arith}
 use native.Mathlib.Numerals.{add-one}
-use lib.Dec.{ltb}
+use lib.Dec.{ltb, eqb}
 use lib.ListN.{length, drop, drop-of-length-le}
-use borrow.Author.Tests.{le-ltb, not-false}
+use borrow.Author.Tests.{le-ltb, not-false, eqb-true}
 use Rattle.route.specs.Refusals.{fine, fault, imageRefusal}
 use Rattle.route.specs.Lists.{any}
 use Rattle.route.specs.Loops.{before, placesFrom}
 use Rattle.tcam.specs.Slots.{Cell, cells, isFree, isUpper, lengthIn, keepsS1, longerThanNearest, samePrefixIn, breaks, imageFault, usedIn}
 use Rattle.tcam.specs.Loops.{cellAt, isUsed, SeenBefore, SeenWith, misplacedBy, FreeEnd}
 use Rattle.tcam.specs.declared.image.Seen.{Seen}
-use Rattle.route.proofs.Tests.{or-parts}
+use Rattle.route.specs.Filter.{Noting}
+use Rattle.route.proofs.Tests.{or-parts, all-three}
+use Rattle.route.proofs.Notes.{NotedBefore, noted-turn, noted-pass}
 use Rattle.route.proofs.Searches.{FoundFrom, from-block}
 use Rattle.tcam.proofs.Rows.{cells-at, cells-in-both, cells-past}
 use Rattle.tcam.proofs.Cells.{used-short}
@@ -138,6 +140,25 @@ module _ {W : ℕ} {ad ts : List ℕ} {s : Seen} {i : ℕ} (h : ImageBefore W ad
       let parts = or-parts (not (s .free)) (s .lower) pool in
       let z : i + (r - i) ≡ r = omega (arith, e .behind) in
       rw z at (image-run (not-false (s .free) (parts .0)) (parts .1) (r - i) (omega (arith, e .behind, e .within)) (e .free))
+
+-- the filter has the prefix of each used slot before slot i
+pub record CellsNoted (ad ts row : List ℕ) (i : ℕ) : Type 0 where
+  pub each : NotedBefore samePrefixIn (λ c. c .address) lengthIn (cellAt ad ts) row i
+
+one-cell : (c b : Cell) → samePrefixIn c b ≡ true → (c .address ≡ b .address) × (lengthIn c ≡ lengthIn b)
+one-cell c b e =
+    let p = all-three (not (isFree b)) (eqb (b .address) (c .address)) (eqb (lengthIn b) (lengthIn c)) e in
+    (sym (eqb-true _ _ (p .1)), sym (eqb-true _ _ (p .2)))
+
+module _ {ad ts row : List ℕ} {i : ℕ} (h : CellsNoted ad ts row i) where
+  pub cells-noted : {c : Cell} {n : ℕ} → c ≡ cellAt ad ts i → n ≡ lengthIn c → {was : Bool} {row′ : List ℕ} →
+      Noting row (c .address) n was row′ → length row′ ≡ length row → CellsNoted ad ts row′ (i + 1)
+  cells-noted is e t l = record { each = noted-turn (h .each) one-cell is (rw e at t) l }
+
+  pub cells-passed : {r : ℕ} → FreeEnd ad ts i r → CellsNoted ad ts row r
+  cells-passed {r} e =
+      let z : i + (r - i) ≡ r = omega (arith, e .behind) in
+      record { each = rw z at (noted-pass (h .each) {has = isUsed} (λ c b u. rw u) (r - i) (e .free)) }
 
 -- so many of the slots from slot `from` up to slot j are used
 pub record UsedFrom (ad ts : List ℕ) (from to j used : ℕ) : Type 0 where

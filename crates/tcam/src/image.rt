@@ -5,7 +5,8 @@
 // before it, and only where it breaks none of the other rules. A free slot right behind a free one
 // breaks a rule only where that one does, so the pool is passed over block by block.
 ghost use mathlib.Core.Path.{_≡_};
-ghost use Prim.Native.Nat.{_+_, _-_, _≤_};
+ghost use Prim.Native.Nat.{_+_, _-_, _≤_, _<_};
+ghost use mathlib.Core.Bool.{false};
 ghost use mathlib.Core.List.{[]};
 ghost use lib.ListN.{length};
 ghost use Rattle.route.specs.Lists.{any};
@@ -23,6 +24,7 @@ use route::Counted;
 use route::Length;
 use route::Refusal;
 use route::Slot;
+use route::filter;
 use route::lesser;
 
 // How many slots are compared before it is asked whether one was found.
@@ -101,16 +103,21 @@ fn stands_before(addresses: &[u32], tags: &[u32], i: Slot, c: Cell) -> bool
     false
 }
 
-// Whether slot i, which holds c, breaks one of S1 to S5.
-fn breaks_rule(addresses: &[u32], tags: &[u32], seen: Seen, i: Slot, c: Cell) -> bool
+// Whether slot i, which holds c, breaks one of S1 to S5. Where its prefix was not noted, no slot before
+// it holds that.
+fn breaks_rule(addresses: &[u32], tags: &[u32], seen: Seen, noted: bool, i: Slot, c: Cell) -> bool
     requires { ⌜ (length (now addresses) ≡ length (now tags)) × (i .0 ≤ length (now addresses)) ⌝ }
     requires { ⌜ SeenBefore 32 (before (cellAt (now addresses) (now tags)) (i .0)) seen ⌝ }
+    requires { ⌜ (noted ≡ false → any (samePrefixIn (cellOf c)) (before (cellAt (now addresses) (now tags)) (i .0)) ≡ false) ⌝ }
     ensures { λ r. ⌜ r ≡ breaks 32 (cellOf c) (before (cellAt (now (addresses .entry)) (now (tags .entry))) (i .0)) ⌝ }
 {
     if seen.refuses(c) {
         return true;
     }
     if c.is_free() {
+        return false;
+    }
+    if !noted {
         return false;
     }
     stands_before(addresses, tags, i, c)
@@ -165,8 +172,8 @@ fn free_end(addresses: &[u32], tags: &[u32], from: Slot) -> Slot
 
 // Refusal 7 of an update. Where a slot before is free and none is below the pool, free slots break no
 // rule and change nothing of what was seen.
-fn image_check(addresses: &[u32], tags: &[u32]) -> Check
-    requires { ⌜ length (now addresses) ≡ length (now tags) ⌝ }
+fn image_check(addresses: &[u32], tags: &[u32], filter: &mut [u64]) -> Check
+    requires { ⌜ (length (now addresses) ≡ length (now tags)) × (0 < length (now filter)) ⌝ }
     ensures { λ r. ⌜ verdictOf r ≡ imageFault 32 0 [] (cells (now (addresses .entry)) (now (tags .entry))) ⌝ }
 {
     let mut seen = Seen {
@@ -177,7 +184,8 @@ fn image_check(addresses: &[u32], tags: &[u32]) -> Check
     let mut i = 0;
     while i < addresses.len() {
         let c = cell_at(addresses, tags, Slot(i));
-        if breaks_rule(addresses, tags, seen, Slot(i), c) {
+        let noted = filter::note(filter, c.address, c.length());
+        if breaks_rule(addresses, tags, seen, noted, Slot(i), c) {
             return Check::Fault(Refusal::Image(i));
         }
         seen = seen.with(c);
@@ -189,6 +197,24 @@ fn image_check(addresses: &[u32], tags: &[u32]) -> Check
         i = next.0;
     }
     Check::Fine
+}
+
+// The same with a filter of the call's own. It is cleared at every call, so there are three sizes of it.
+fn slots_check(addresses: &[u32], tags: &[u32]) -> Check
+    requires { ⌜ length (now addresses) ≡ length (now tags) ⌝ }
+    ensures { λ r. ⌜ verdictOf r ≡ imageFault 32 0 [] (cells (now (addresses .entry)) (now (tags .entry))) ⌝ }
+{
+    let n = addresses.len();
+    if n <= 64 {
+        let mut filter = [0u64; 16];
+        return image_check(addresses, tags, &mut filter);
+    }
+    if n <= 1024 {
+        let mut filter = [0u64; 512];
+        return image_check(addresses, tags, &mut filter);
+    }
+    let mut filter = [0u64; 4096];
+    image_check(addresses, tags, &mut filter)
 }
 
 // How many slots from slot `from` up to slot `to` are used. With a count of 32 bits several slots are
@@ -232,7 +258,7 @@ pub fn table_check(addresses: &[u32], tags: &[u32]) -> Check
     if let Check::Fault(f) = size {
         return Check::Fault(f);
     }
-    image_check(addresses, tags)
+    slots_check(addresses, tags)
 }
 
 // Tests a table as an update does: the number of used slots, or refusal 8 or 7.

@@ -5,10 +5,10 @@ use Rattle.route.proofs.list.check.Statement.{statement}
 use Rattle.route.proofs.list.check.Tie as tie
 
 returns-4 : tie.Need-returns-4
-returns-4 c = rw (← c .before .before .before .entries-check .ensures, c .before .f .given .1) (search tests)
+returns-4 c = rw (← c .before .before .before .rows-check .ensures, c .before .f .given .1) (search tests)
 
 returns-5 : tie.Need-returns-5
-returns-5 c = rw (← c .before .before .entries-check .ensures, c .enum-told .given .1) (search tests)
+returns-5 c = rw (← c .before .before .rows-check .ensures, c .enum-told .given .1) (search tests)
 
 pub check-spec : {M : Type 1} → statement M
 check-spec =

@@ -6,8 +6,8 @@ use Rattle.tcam.proofs.Sizes.{sized}
 use Rattle.tcam.proofs.image.table_check.Statement.{statement}
 use Rattle.tcam.proofs.image.table_check.Tie as tie
 
-image-check-requires : tie.Need-image-check-requires
-image-check-requires c κs = sized _ _ (sym (ap verdictOf (c .enum-told .given .1)) ∙ c .before .before .size-check .ensures) .equal
+slots-check-requires : tie.Need-slots-check-requires
+slots-check-requires c κs = sized _ _ (sym (ap verdictOf (c .enum-told .given .1)) ∙ c .before .before .size-check .ensures) .equal
 
 returns : tie.Need-returns
 returns c = rw (← c .before .before .before .size-check .ensures, c .before .size .given .1)
@@ -15,10 +15,10 @@ returns c = rw (← c .before .before .before .size-check .ensures, c .before .s
 returns-2 : tie.Need-returns-2
 returns-2 c =
     let s = c .before in
-    rw (← s .before .before .size-check .ensures, s .enum-told .given .1) (c .image-check .ensures)
+    rw (← s .before .before .size-check .ensures, s .enum-told .given .1) (c .slots-check .ensures)
 
 pub table-check-spec : {M : Type 1} → statement M
 table-check-spec =
     tie.close
     (tie.spec
-    (λ c κs. search needs) (λ c. search needs) returns (λ c. search needs) image-check-requires returns-2)
+    (λ c κs. search needs) (λ c. search needs) returns (λ c. search needs) slots-check-requires returns-2)
