@@ -20,7 +20,7 @@ use Rattle.tcam.proofs.SlotsAgree.{slotsAgree}
 use Rattle.ranges.specs.Ranges.{Range, rangesOf}
 use Rattle.ranges.proofs.Boundaries.{Placed}
 use Rattle.ranges.proofs.RangesAgree.{rangesAgree, rangesFine, rangesOnly, rangesHop, rangesBelow, rangesSmall, rangesFew, rangesFewer}
-use Rattle.dxr.proofs.DxrAgrees.{dxrAgree, mainFit, wordsFit}
+use Rattle.dxr.proofs.DxrAgrees.{dxrAgree, mainFit, wordsFit, wordsFew}
 use Rattle.claims.specs.Agreement.{Addresses, Agree, Fits, RangesFor, SetOfPrefixes, PrefixList, Demand2}
 
 module _ (W : ℕ) (ad ns hs : List ℕ) (s : RowsOfSet W ad ns hs) where
@@ -58,6 +58,7 @@ module _ (W : ℕ) (ad ns hs : List ℕ) (s : RowsOfSet W ad ns hs) where
     hops = rangesSmall W (routes ad ns hs) (s .valid) (placed small);
     main = λ S split. mainFit W S split (routes ad ns hs) few (s .valid) (placed small);
     words = λ S split. wordsFit W S split (routes ad ns hs) few (s .valid) (placed small);
+    room = λ S split. wordsFew W S split (routes ad ns hs) few (s .valid) (placed small);
     few = rangesFew W (routes ad ns hs);
     fewer = λ r m e. rangesFewer W (routes ad ns hs) r m (s .valid r m) e (placed small r m);
   }

@@ -42,3 +42,8 @@ pub mod HasTable
 -- the report from the book
 pub mod ReportOfBook
 pub mod Example
+-- a plan applied again, update records
+pub mod Reapplied
+pub mod RecordForms
+-- all claims
+pub mod Page

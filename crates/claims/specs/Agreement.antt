@@ -36,13 +36,14 @@ pub record Agree (W : ℕ) (ad ns hs : List ℕ) (q h : ℕ) : Type 0 where
   pub dxr : (S : ℕ) → Split W S → Addresses W ad → q < 2 ^ W → (rest : List ℕ) →
       dxrLookup W S (mainOf W S ad ns hs) (wordsOf W S ad ns hs ++ rest) q ≡ value h
 
--- what is built from a set fits its rows: starts of W bits, no hop over the limit, main words and range words of 32 bits; P routes give
--- at most 2P + 1 ranges, at most 2P - 1 if length 0 is among them
+-- what is built from a set fits its rows: starts of W bits, no hop over the limit, main words and range words of 32 bits, and at most
+-- 12,288 range words; P routes give at most 2P + 1 ranges, at most 2P - 1 if length 0 is among them
 pub record Fits (W : ℕ) (rs : List Route) : Type 0 where
   pub starts : (x : ℕ) → x ∈ startsOf (rangesOf W rs) → x < 2 ^ W
   pub hops : (x : ℕ) → x ∈ hopsOf (rangesOf W rs) → x ≤ maxHop
   pub main : (S : ℕ) → Split W S → (x : ℕ) → x ∈ tableMain W S (rangesOf W rs) → x < 2 ^ 32
   pub words : (S : ℕ) → Split W S → (x : ℕ) → x ∈ tableWords W S (rangesOf W rs) → x < 2 ^ 32
+  pub room : (S : ℕ) → Split W S → length (tableWords W S (rangesOf W rs)) ≤ 12288
   pub few : length (rangesOf W rs) ≤ 2 * length rs + 1
   pub fewer : (r : Route) → r ∈ rs → r .length ≡ 0 → length (rangesOf W rs) ≤ 2 * length rs - 1
 

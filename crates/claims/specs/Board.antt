@@ -4,7 +4,7 @@
 -- range as its start and its hop; a chunk as its main word and its range words.
 use Prim.Native.Nat.{ℕ, _+_, _*_}
 use mathlib.Core.List.{List, [], _∷_, _++_, map}
-use lib.ListN.{length, replicate}
+use lib.ListN.{length, getD, replicate}
 use Rattle.route.specs.Rule.{Route, route}
 use Rattle.route.specs.Refusals.{Answer, value, refused}
 use Rattle.route.specs.Lists.{listLookup}
@@ -16,7 +16,8 @@ use Rattle.tcam.specs.Plans
 use Rattle.tcam.specs.Plans.{Write, Planned, refuses, writes, planSet, planRemove}
 use Rattle.tcam.specs.Applies.{written}
 use Rattle.ranges.specs.Ranges.{Range, rangesOf}
-use Rattle.dxr.specs.Dxr.{chunk, words, mainWord, allWords}
+use Rattle.dxr.specs.Dxr.{partOf}
+use Rattle.dxr.specs.Builds.{mainOf, wordsOf}
 use Rattle.claims.specs.Sequence.{mostToSet, mostToRemove}
 
 -- an address by its four octets
@@ -83,15 +84,16 @@ abbrev pub shownRanges : List Range → List ℕ
 shownRanges [] = []
 shownRanges (r ∷ rs) = r .start ∷ r .hop ∷ shownRanges rs
 
--- chunk c of a set's DXR table with a 16-bit split: its main word, then its range words
-abbrev pub shownChunk : List Route → ℕ → List ℕ
-shownChunk rs c = mainWord entries (length (allWords 32 16 t c)) ∷ words entries
-  where
-    t : List Range
-    t = rangesOf 32 rs
+-- chunk c as the build of a set's list leaves it, with a 16-bit split: cell c of the main table, then the part of the range words to which
+-- that points
+abbrev pub mainRow : List Route → List ℕ
+mainRow rs = mainOf 32 16 (map (λ r. r .address) rs) (map (λ r. r .length) rs) (map (λ r. r .hop) rs)
 
-    entries : List Range
-    entries = chunk 32 16 t c
+abbrev pub wordRow : List Route → List ℕ
+wordRow rs = wordsOf 32 16 (map (λ r. r .address) rs) (map (λ r. r .length) rs) (map (λ r. r .hop) rs)
+
+abbrev pub shownChunk : List Route → ℕ → List ℕ
+shownChunk rs c = getD (mainRow rs) c 0 ∷ partOf (getD (mainRow rs) c 0) (wordRow rs)
 
 -- cases a to d, e; b and e over one slice; f, g, h, i, j; then the most writes of a set and of a removal over 32 bits
 abbrev pub got : List (List ℕ)

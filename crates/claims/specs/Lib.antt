@@ -1,6 +1,12 @@
--- Demand 2, demand 3, the board cases, the report.
+-- Demand 2, demand 3, a plan applied again, the board cases.
 pub mod Agreement
 pub mod Sequence
+pub mod Reapplied
 pub mod Board
+-- Update records, the report, answers as values.
+pub mod RecordForms
 pub mod ReportOfBook
 pub mod Example
+pub mod Determined
+-- All claims.
+pub mod Claims

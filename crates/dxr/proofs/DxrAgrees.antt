@@ -23,6 +23,10 @@ module _ (W S : ℕ) (split : Split W S) (rs : List Route) (few : length rs ≤ 
   pub roomForAll : (c : ℕ) → length (allWords W S (rangesOf W rs) c) ≤ 3 * maxRoutes
   roomForAll c = omega (arith, room W S (split .narrow) rs valid placed c, longerFew S rs)
 
+  pub wordsFew : length (tableWords W S (rangesOf W rs)) ≤ 3 * maxRoutes
+  unfolding tableWords
+  wordsFew = roomForAll (2 ^ S)
+
   -- so positions take 16 bits, and counts 14
   below : (c : ℕ) → length (allWords W S (rangesOf W rs) c) < 65536
   below c = omega (arith, roomForAll c)

@@ -60,6 +60,14 @@ module _ (W S : ℕ) (t : List Range) where
       (λ e. rw (eqb-true c n e) (getD-at (mainWords W S t n) (mainWord (chunk W S t n) (length (allWords W S t n))) [] 0 n (mainLength n)))
       (λ e. List·getD-append (mainWords W S t n) _ 0 c (omega (orders, mainLength n)) ∙ mainAt n c (omega orders))
 
+  -- chunk c as it stands in the table: its main word, and its range words behind those of the chunks before it
+  pub shownIn : (c : ℕ) → c < 2 ^ S →
+      (rest : List ℕ)
+      × (getD (tableMain W S t) c 0 ≡ mainWord (chunk W S t c) (length (allWords W S t c)))
+      × (tableWords W S t ≡ allWords W S t c ++ (words (chunk W S t c) ++ rest))
+  unfolding tableMain tableWords
+  shownIn c lt = let part = stands (2 ^ S) c lt in (part .0, mainAt (2 ^ S) c lt, part .1)
+
 module _ (W S : ℕ) (split : Split W S) (t : List Range) (ok : tableFault t ≡ fine) where
   pub fit : (c : ℕ) → Fits (chunk W S t c)
   fit c =

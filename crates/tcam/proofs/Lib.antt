@@ -13,3 +13,4 @@ pub mod Chains
 -- What a plan answers and leaves, and that it can be applied.
 pub mod Planned
 pub mod Whole
+pub mod Stores

@@ -1,0 +1,34 @@
+-- The page of all claims, with the proof of each.
+use Rattle.history.proofs.Whole.{wholeReport}
+use Rattle.route.proofs.Determined.{check-determined, counted-determined, found-determined}
+use Rattle.records.proofs.Determined.{step-determined}
+use Rattle.history.proofs.Determined.{filled-determined}
+use Rattle.claims.specs.Claims.{Claims}
+use Rattle.claims.proofs.Demand2.{demand2}
+use Rattle.claims.proofs.HasTable.{hasTable}
+use Rattle.claims.proofs.Demand3.{demand3}
+use Rattle.claims.proofs.Reapplied.{reapplied}
+use Rattle.claims.proofs.Board.{board}
+use Rattle.claims.proofs.RecordForms.{recordForms}
+use Rattle.claims.proofs.ReportOfBook.{reportOfBook}
+use Rattle.claims.proofs.Example.{example}
+
+pub claims : Claims
+claims = record {
+  demand2 = demand2;
+  hasTable = hasTable;
+  demand3 = demand3;
+  reapplied = reapplied;
+  board = board;
+  records = recordForms;
+  parts = wholeReport;
+  report = reportOfBook;
+  example = example;
+  determined = record {
+    checks = check-determined;
+    counts = counted-determined;
+    lookups = found-determined;
+    readings = step-determined;
+    parts = filled-determined;
+  };
+}

@@ -1,0 +1,40 @@
+-- The claims, on one page. The contract of `hold` is this record, so each of them is a part of the crate's verdict.
+use Prim.Native.Nat.{ℕ, _≤_}
+use mathlib.Core.Path.{_≡_}
+use mathlib.Core.List.{List}
+use Rattle.history.specs.Whole.{WholeReport}
+use Rattle.claims.specs.Agreement.{Demand2, HasTable}
+use Rattle.claims.specs.Sequence.{Demand3}
+use Rattle.claims.specs.Reapplied.{Reapplied}
+use Rattle.claims.specs.Board.{got, expected}
+use Rattle.claims.specs.RecordForms.{RecordForms}
+use Rattle.claims.specs.ReportOfBook.{ReportOfBook}
+use Rattle.claims.specs.Example.{Example}
+use Rattle.claims.specs.Determined.{Determined}
+
+pub record Claims : Type 0 where
+  -- The list, the slots, the merged ranges and the DXR table of one set of prefixes give every address the next hop of the longest
+  -- matching prefix, and none exactly where no prefix matches; no other answer is right. What is built fits its rows: P prefixes give at
+  -- most 2P + 1 ranges, 2P - 1 with length 0 among them, and at most 12,288 range words.
+  pub demand2 : Demand2
+  -- Every set of at most M routes has a table of M slots.
+  pub hasTable : (W : ℕ) → HasTable W
+  -- From an empty table of 1 to 4,096 slots, over any sequence of planned sets, planned removals and applies, refused ones included: each
+  -- answers as the book does, with its refusal or its number of writes; the table is the book's image; and every cut of every accepted
+  -- plan looks up right, for the set before and, from one named write on, for the set after.
+  pub demand3 : (W : ℕ) → Demand3 W
+  -- A plan can be applied write by write on one table, each time from its start: the first k writes leave what they leave of the table
+  -- before the plan.
+  pub reapplied : (W : ℕ) → Reapplied W
+  -- The board cases a to j come out as they stand on the board.
+  pub board : got ≡ expected
+  -- The reader of update records accepts exactly what a writer writes, and its places lie in the input.
+  pub records : (W : ℕ) → W ≤ 32 → RecordForms W
+  -- The parts of a report, one after another, are the report, whatever the buffers' lengths.
+  pub parts : (bs rooms : List ℕ) → WholeReport bs rooms
+  -- The report of any input can be worked out from the book alone.
+  pub report : ReportOfBook
+  -- The report of the board's example is the text on the board.
+  pub example : Example
+  -- What a call shows, its number, place and values, determines the value that it returns.
+  pub determined : Determined
