@@ -20,6 +20,7 @@ use crate::MAIN_WORDS;
 use crate::chunk;
 use ranges::MAX_RANGES;
 use route::Counted;
+use route::OptionalHop;
 use route::Refusal;
 
 // The ranges of a chunk: from the first up to the end.
@@ -80,14 +81,14 @@ fn count_words(starts: &[u32], hops: &[u32]) -> usize
     count
 }
 
-// One number in the cells from `from` up to `to`.
-fn fill(row: &mut [u32], from: usize, to: usize, number: u32)
-    requires { ⌜ (from ≤ to) × (to ≤ length (now row)) ⌝ }
-    ensures { λ r. ⌜ now (row .exit) ≡ sets (now (row .entry)) from (replicate (to - from) number) ⌝ }
+// The hop of one range as the main word of the chunks from `from` up to `to`.
+fn fill(main: &mut [u32], from: usize, to: usize, hop: OptionalHop)
+    requires { ⌜ (from ≤ to) × (to ≤ length (now main)) ⌝ }
+    ensures { λ r. ⌜ now (main .exit) ≡ sets (now (main .entry)) from (replicate (to - from) (hop .0)) ⌝ }
 {
     let mut i = from;
     while i < to {
-        row[i] = number;
+        main[i] = hop.0;
         i += 1;
     }
 }
@@ -106,7 +107,8 @@ fn write_table(starts: &[u32], hops: &[u32], main: &mut [u32], words: &mut [u32]
     while from + 1 < starts.len() {
         let chunk = starts[from + 1] / 65536;
         let next = chunk as usize;
-        fill(main, done, next, hops[from]);
+        let hop = OptionalHop(hops[from]);
+        fill(main, done, next, hop);
         let part = part_at(starts, from, chunk);
         let base = chunk * 65536;
         let stored = chunk::store(
@@ -121,7 +123,8 @@ fn write_table(starts: &[u32], hops: &[u32], main: &mut [u32], words: &mut [u32]
         from = part.end - 1;
         done = next + 1;
     }
-    fill(main, done, MAIN_WORDS, hops[from]);
+    let last = OptionalHop(hops[from]);
+    fill(main, done, MAIN_WORDS, last);
 }
 
 // The table of ranges of which one can be made: how many range words it has, or refusal 9.

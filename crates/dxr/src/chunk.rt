@@ -14,8 +14,10 @@ ghost use Rattle.dxr.specs.Loops.{entryFrom, entriesFrom, Encodable, Has
 ghost use Rattle.dxr.specs.Shown.{IsStored};
 use crate::lookup::part_length;
 use ranges::words::Range;
+use route::OptionalHop;
 
-// A chunk as it is stored: its main word, and how many range words are used then.
+// A chunk as it is stored: its main word, which is the hop where there is one entry, and how many
+// range words are used then.
 pub struct Stored {
     pub word: u32,
     pub used: usize,
@@ -35,7 +37,7 @@ fn entry_of(starts: &[u32], hops: &[u32], base: u32, i: usize) -> Range
 {
     Range {
         start: above(starts[i], base),
-        hop: hops[i],
+        hop: OptionalHop(hops[i]),
     }
 }
 
@@ -43,7 +45,7 @@ fn entry_of(starts: &[u32], hops: &[u32], base: u32, i: usize) -> Range
 fn fits_short(e: Range) -> bool
     ensures { λ r. ⌜ r ≡ fitsShort (rangeOf e) ⌝ }
 {
-    (e.start % 256 == 0) & (e.hop <= 255)
+    (e.start % 256 == 0) & (e.hop.0 <= 255)
 }
 
 // Whether all entries of a chunk fit 16 bits each.
@@ -80,7 +82,7 @@ fn short_half(starts: &[u32], hops: &[u32], base: u32, i: usize) -> u32
 {
     if i < starts.len() {
         let e = entry_of(starts, hops, base, i);
-        e.start / 256 * 256 + e.hop
+        e.start / 256 * 256 + e.hop.0
     } else {
         0
     }
@@ -97,7 +99,7 @@ fn word_at(starts: &[u32], hops: &[u32], base: u32, short: bool, k: usize) -> u3
         upper * 65536 + short_half(starts, hops, base, 2 * k + 1)
     } else {
         let e = entry_of(starts, hops, base, k);
-        e.start * 65536 + e.hop
+        e.start * 65536 + e.hop.0
     }
 }
 
@@ -142,10 +144,8 @@ pub(crate) fn store(
 {
     let n = starts.len();
     if n == 1 {
-        return Stored {
-            word: hops[0],
-            used,
-        };
+        let hop = OptionalHop(hops[0]);
+        return Stored { word: hop.0, used };
     }
     let short = all_short(starts, hops, base);
     let end = used + part_length(short, n);

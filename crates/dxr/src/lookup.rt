@@ -16,6 +16,7 @@ use ranges::one_if;
 use ranges::words::Range;
 use route::Found;
 use route::MAX_HOP;
+use route::OptionalHop;
 use route::Refusal;
 
 // The half of a word in which entry i stands: the earlier of two is the upper one.
@@ -38,13 +39,13 @@ fn entry_at(part: &[u32], short: bool, i: usize) -> Range
         let half = half_at(part[i / 2], i);
         Range {
             start: half / 256 * 256,
-            hop: half % 256,
+            hop: OptionalHop(half % 256),
         }
     } else {
         let word = part[i];
         Range {
             start: word / 65536,
-            hop: word % 65536,
+            hop: OptionalHop(word % 65536),
         }
     }
 }
@@ -146,7 +147,7 @@ fn look_through(part: &[u32], short: bool, count: usize, key: u32, chunk: usize)
     if !p.fine {
         return Found::Refused(Refusal::Image(chunk));
     }
-    Found::of_number(entry_at(part, short, p.below as usize).hop)
+    entry_at(part, short, p.below as usize).hop.found()
 }
 
 // How many range words so many entries take.
@@ -162,7 +163,7 @@ fn look_in(word: u32, words: &[u32], key: u32, chunk: usize) -> Found
     ensures { λ r. ⌜ shown r ≡ chunkAnswer 65536 chunk word (now (words .entry)) key ⌝ }
 {
     if word <= MAX_HOP {
-        return Found::of_number(word);
+        return OptionalHop(word).found();
     }
     let kind = word / 1073741824;
     if kind == 0 {

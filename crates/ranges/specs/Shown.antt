@@ -9,7 +9,7 @@ use Rattle.ranges.specs.declared.words.Range.{Range as CodeRange}
 use Rattle.ranges.specs.declared.sweep.Progress.{Progress}
 
 abbrev pub rangeOf : CodeRange → Range
-rangeOf r = range (r .start) (r .hop)
+rangeOf r = range (r .start) (r .hop .0)
 
 -- a sweep whose open prefixes are the first of these keys, the last of them opened last, and whose ranges are the first of these words
 abbrev pub sweepOf : Progress → List ℕ → List ℕ → Sweep

@@ -53,7 +53,7 @@ fn write_rows(words: &[u64], made: usize, starts: &mut [u32], range_hops: &mut [
     while i < made {
         let r = range_of(words[i]);
         starts[i] = r.start;
-        range_hops[i] = r.hop;
+        range_hops[i] = r.hop.0;
         i += 1;
     }
 }

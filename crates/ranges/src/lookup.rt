@@ -15,13 +15,32 @@ use crate::one_if;
 use crate::words::Range;
 use route::Found;
 use route::MAX_HOP;
+use route::OptionalHop;
 use route::Refusal;
+
+// Range i of two rows.
+fn range_at(starts: &[u32], range_hops: &[u32], i: usize) -> Range
+    requires { ⌜ (length (now starts) ≡ length (now «range_hops»)) × (i < length (now starts)) ⌝ }
+    ensures { λ r. ⌜ rangeOf r ≡ rangeAt (now (starts .entry)) (now («range_hops» .entry)) i ⌝ }
+{
+    Range {
+        start: starts[i],
+        hop: OptionalHop(range_hops[i]),
+    }
+}
 
 // Whether the first range of a table breaks a rule.
 fn first_breaks(r: Range) -> bool
     ensures { λ b. ⌜ b ≡ firstBreaks (rangeOf r) ⌝ }
 {
-    !(r.start == 0) | (MAX_HOP < r.hop)
+    !(r.start == 0) | (MAX_HOP < r.hop.0)
+}
+
+// Whether a range breaks a rule behind the range p.
+fn next_breaks(p: Range, r: Range) -> bool
+    ensures { λ b. ⌜ b ≡ breaks (rangeOf p) (rangeOf r) ⌝ }
+{
+    (r.start <= p.start) | (r.hop.0 == p.hop.0) | (MAX_HOP < r.hop.0)
 }
 
 // Whether the range behind range i breaks a rule.
@@ -29,9 +48,8 @@ fn breaks_behind(starts: &[u32], range_hops: &[u32], i: usize) -> bool
     requires { ⌜ (length (now starts) ≡ length (now «range_hops»)) × (i + 1 < length (now starts)) ⌝ }
     ensures { λ b. ⌜ b ≡ breaks (rangeAt (now (starts .entry)) (now («range_hops» .entry)) i) (rangeAt (now (starts .entry)) (now («range_hops» .entry)) (i + 1)) ⌝ }
 {
-    (starts[i + 1] <= starts[i])
-        | (range_hops[i + 1] == range_hops[i])
-        | (MAX_HOP < range_hops[i + 1])
+    let p = range_at(starts, range_hops, i);
+    next_breaks(p, range_at(starts, range_hops, i + 1))
 }
 
 // The place of the first range that breaks a rule behind the one before it, where one does.
@@ -62,7 +80,7 @@ fn look_behind(starts: &[u32], range_hops: &[u32], q: u32) -> Found
     if bad {
         return Found::Refused(Refusal::Image(find_break(starts, range_hops)));
     }
-    Found::of_number(range_hops[below as usize])
+    OptionalHop(range_hops[below as usize]).found()
 }
 
 // Looks q up in a range table: refusal 8 or 7, else the hop of the last range that starts at or
@@ -80,11 +98,7 @@ pub fn lookup(starts: &[u32], range_hops: &[u32], q: u32) -> Found
     if n == 0 {
         return Found::Refused(Refusal::Image(0));
     }
-    let first = Range {
-        start: starts[0],
-        hop: range_hops[0],
-    };
-    if first_breaks(first) {
+    if first_breaks(range_at(starts, range_hops, 0)) {
         return Found::Refused(Refusal::Image(0));
     }
     look_behind(starts, range_hops, q)

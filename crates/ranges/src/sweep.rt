@@ -16,6 +16,7 @@ use crate::words::Range;
 use crate::words::prefix_of;
 use crate::words::range_of;
 use crate::words::word_of;
+use route::OptionalHop;
 use route::Prefix;
 use route::rule::span_of;
 use std::num::wrapping_add_u32;
@@ -37,33 +38,33 @@ fn past_end(p: Prefix) -> u32
     wrapping_add_u32(last, 1)
 }
 
-// The hop of the prefix opened last, 0 where none is open.
-fn open_hop(keys: &[u64], opened: usize) -> u32
+// The hop of the prefix opened last, none where none is open.
+fn open_hop(keys: &[u64], opened: usize) -> OptionalHop
     requires { ⌜ opened ≤ length (now keys) ⌝ }
-    ensures { λ r. ⌜ r ≡ openHop (before (keyAt (now (keys .entry))) opened) ⌝ }
+    ensures { λ r. ⌜ r .0 ≡ openHop (before (keyAt (now (keys .entry))) opened) ⌝ }
 {
     if opened == 0 {
-        return 0;
+        return OptionalHop(0);
     }
     let p = prefix_of(keys[opened - 1]);
-    p.hop.0
+    OptionalHop(p.hop.0)
 }
 
 // Whether the last of the ranges has this hop.
-fn ends_with(words: &[u64], made: usize, hop: u32) -> bool
+fn ends_with(words: &[u64], made: usize, hop: OptionalHop) -> bool
     requires { ⌜ made ≤ length (now words) ⌝ }
-    ensures { λ r. ⌜ r ≡ endsWith (rangesIn made (now (words .entry))) hop ⌝ }
+    ensures { λ r. ⌜ r ≡ endsWith (rangesIn made (now (words .entry))) (hop .0) ⌝ }
 {
     if made == 0 {
         return false;
     }
     let last = range_of(words[made - 1]);
-    last.hop == hop
+    last.hop.0 == hop.0
 }
 
 // Adds a range to those made, unless the last of them has its hop: how many there are then.
 fn join(words: &mut [u64], made: usize, r: Range) -> usize
-    requires { ⌜ (made < length (now words)) × (r .hop < 65536) ⌝ }
+    requires { ⌜ (made < length (now words)) × (r .hop .0 < 65536) ⌝ }
     ensures { λ n. ⌜ (n ≤ made + 1) × (rangesIn n (now (words .exit)) ≡ joined (rangesIn made (now (words .entry))) (rangeOf r)) ⌝ }
     ensures { λ n. ⌜ length (now (words .exit)) ≡ length (now (words .entry)) ⌝ }
 {

@@ -5,12 +5,13 @@ ghost use Rattle.ranges.specs.Words.{keyOf, routeIn, wordOf, rangeIn};
 ghost use Rattle.ranges.specs.Shown.{rangeOf};
 use route::Hop;
 use route::Length;
+use route::OptionalHop;
 use route::Prefix;
 
-// A range: where it starts, and its hop, 0 for none.
+// A range: where it starts, and its hop.
 pub struct Range {
     pub start: u32,
-    pub hop: u32,
+    pub hop: OptionalHop,
 }
 
 // The key of a prefix: its address, then its length, then its hop.
@@ -35,7 +36,7 @@ pub(crate) fn prefix_of(key: u64) -> Prefix
 pub(crate) fn word_of(r: Range) -> u64
     ensures { λ w. ⌜ w ≡ wordOf (rangeOf r) ⌝ }
 {
-    (r.start as u64) * 65536 + (r.hop as u64)
+    (r.start as u64) * 65536 + (r.hop.0 as u64)
 }
 
 // The range that a word says.
@@ -44,6 +45,6 @@ pub(crate) fn range_of(word: u64) -> Range
 {
     Range {
         start: (word / 65536 % 4294967296) as u32,
-        hop: (word % 65536) as u32,
+        hop: OptionalHop((word % 65536) as u32),
     }
 }

@@ -5,7 +5,8 @@
 // definitions of specs/Shown give the number and the place for each case, and every contract goes
 // through them.
 //
-// Where no prefix matches there is no next hop. That is a case, `Found::Nothing`, and never a hop.
+// Where no prefix matches there is no next hop. That is a case, `Found::Nothing`, and never a hop. A
+// range and a main word hold a number all the same, an `OptionalHop`.
 pub mod filter;
 pub mod list;
 pub mod rule;
@@ -28,6 +29,9 @@ pub struct Length(pub u32);
 // A next hop.
 #[repr(C)]
 pub struct Hop(pub u32);
+
+// A next hop or none, as a range or a main word holds it: 0 is none.
+pub struct OptionalHop(pub u32);
 
 // A slot's place in a table.
 pub struct Slot(pub usize);
@@ -89,15 +93,15 @@ impl Check {
     }
 }
 
-impl Found {
-    // What a table's number for a hop says: 0 is none.
-    pub fn of_number(hop: u32) -> Found
-        ensures { λ r. ⌜ shown r ≡ value hop ⌝ }
+impl OptionalHop {
+    // What a lookup that comes to it finds.
+    pub fn found(self) -> Found
+        ensures { λ r. ⌜ shown r ≡ value (self .0) ⌝ }
     {
-        if hop == 0 {
+        if self.0 == 0 {
             return Found::Nothing;
         }
-        Found::Via(Hop(hop))
+        Found::Via(Hop(self.0))
     }
 }
 

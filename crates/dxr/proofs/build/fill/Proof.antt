@@ -1,4 +1,4 @@
--- Cell by cell. The measure is how many are left.
+-- Chunk by chunk. The measure is how many are left.
 use borrow.Author.Needs.{needs}
 use Prim.Native.Nat.{_-_}
 use mathlib.Core.Path.{refl}
@@ -7,10 +7,10 @@ use Rattle.dxr.proofs.build.fill.Statement.{statement}
 use Rattle.dxr.proofs.build.fill.Tie as tie
 
 abbrev Inv-loop : tie.InvT-loop
-Inv-loop row₀ from to number i₀ row i = FilledUpTo number to row₀ from row i
+Inv-loop main₀ from to hop i₀ main i = FilledUpTo (hop .0) to main₀ from main i
 
 abbrev μ-loop : tie.MeasureT-loop
-μ-loop row₀ from to number i₀ row i = to - i
+μ-loop main₀ from to hop i₀ main i = to - i
 
 loop-holds : tie.Need-loop-holds Inv-loop μ-loop
 loop-holds c = record { within = search needs; size = refl; left = refl }

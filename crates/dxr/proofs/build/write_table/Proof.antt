@@ -20,6 +20,10 @@ abbrev μ-loop : tie.MeasureT-loop
 loop-holds : tie.Need-loop-holds Inv-loop μ-loop
 loop-holds c = let s = c .before .before .before .before in written-start (s .pre .0) (s .pre .1 .0) (s .pre .1 .1)
 
+-- the range that was reached has a hop
+has-hop : (c : tie.At-loop Inv-loop μ-loop) → c .loop .from < length (c .before .before .before .before .before .args .hops .now)
+has-hop c = let r = c .loop .inv .reached in omega (arith, r .within, r .rows .equal)
+
 -- the chunk in which the next range starts
 small : (c : tie.After-shared-slice-known3 Inv-loop μ-loop) →
     let l = c .before .before in getD (l .before .before .before .before .before .args .starts .now) (l .loop .from + 1) 0 < 4294967296
@@ -46,9 +50,6 @@ here c =
 
 cast-next : tie.Need-cast-next Inv-loop μ-loop
 cast-next c = let l = small c in search needs
-
-shared-slice-read-fill : tie.Need-shared-slice-read-fill Inv-loop μ-loop
-shared-slice-read-fill c = let r = c .before .before .before .before .loop .inv .reached in omega (arith, r .within, r .rows .equal)
 
 fill-requires : tie.Need-fill-requires Inv-loop μ-loop
 fill-requires c κs = let k = c .before .before in (later k, omega (arith, there k, main-length (k .before .before .loop .inv)))
@@ -102,9 +103,6 @@ loop-again c =
     written-turn (here f) (there (f .before .before .before)) split-16 (p .part-at .ensures .0)
     (rw (s .before .before .before .part-of .ensures, s .before .before .part-of2 .ensures) at (s .store .ensures))
 
-shared-slice-read-fill-2 : tie.Need-shared-slice-read-fill-2 Inv-loop μ-loop
-shared-slice-read-fill-2 c = let r = c .before .before .before .loop .inv .reached in omega (arith, r .within, r .rows .equal)
-
 fill-requires-2 : tie.Need-fill-requires-2 Inv-loop μ-loop
 fill-requires-2 c κs = let i = c .before .before .before .loop .inv in (i .reached .upto, omega (arith, main-length i))
 
@@ -132,6 +130,6 @@ write-table-spec =
     tie.close
     (tie.spec
     Inv-loop μ-loop loop-holds (λ c. search needs) (λ c. search needs) (λ c. search needs) (λ c. search needs) cast-next
-    (λ c. search needs) shared-slice-read-fill fill-requires part-at-requires mul-base part-of-requires part-of-requires-2
+    (λ c. search needs) (λ c. has-hop (c .before .before .before)) fill-requires part-at-requires mul-base part-of-requires part-of-requires-2
     store-requires mul-main slice-write-main sub-from add-done loop-less loop-again (λ c. search needs)
-    shared-slice-read-fill-2 fill-requires-2 same-length same-length-2 returns)
+    (λ c. has-hop (c .before .before)) fill-requires-2 same-length same-length-2 returns)

@@ -8,7 +8,7 @@ use Rattle.dxr.proofs.lookup.look_in.Tie as tie
 returns : tie.Need-returns
 returns c =
     let a = c .before .before .before .args in
-    c .of-number .ensures ∙ direct-hop 65536 (a .chunk) (a .word) (a .words .now) (a .key) (search needs) (c .before .if1 .taken)
+    c .found .ensures ∙ direct-hop 65536 (a .chunk) (a .word) (a .words .now) (a .key) (search needs) (c .before .if1 .taken)
 
 returns-2 : tie.Need-returns-2
 returns-2 c =

@@ -29,7 +29,7 @@ returns-2 c =
     let e = c .before in
     let p = e .before .before .before .before in
     let s = p .before .before in
-    c .of-number .ensures
+    c .found .ensures
     ∙ passed-hop (p .pass-part .ensures) (s .args .chunk) (not-false (p .pass-part .result .fine) (e .before .before .if1 .left))
     (e .entry-at .ensures .0 ∙ sym (decoded-get (s .args .short) (s .args .count) (s .args .part .now) (s .pre .2) _ (within p)))
 

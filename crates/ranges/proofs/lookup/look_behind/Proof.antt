@@ -27,7 +27,7 @@ returns : tie.Need-returns Inv-loop μ-loop
 returns c = rw (c .find-break .ensures)
 
 returns-2 : tie.Need-returns-2 Inv-loop μ-loop
-returns-2 c = c .of-number .ensures ∙ tested-good (c .before .before .before .before .loop .inv) (search needs) (c .before .before .if1 .left)
+returns-2 c = c .found .ensures ∙ tested-good (c .before .before .before .before .loop .inv) (search needs) (c .before .before .if1 .left)
 
 pub look-behind-spec : {M : Type 1} → statement M
 look-behind-spec =

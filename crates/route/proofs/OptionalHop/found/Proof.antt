@@ -3,8 +3,8 @@ use borrow.Author.Needs.{needs}
 use mathlib.Core.Path.{ap}
 use Rattle.route.specs.Refusals.{value}
 use Rattle.route.proofs.Lookups.{via-shown}
-use Rattle.route.proofs.Found.of_number.Statement.{statement}
-use Rattle.route.proofs.Found.of_number.Tie as tie
+use Rattle.route.proofs.OptionalHop.found.Statement.{statement}
+use Rattle.route.proofs.OptionalHop.found.Tie as tie
 
 returns : tie.Need-returns
 returns c = ap value (search needs)
@@ -12,5 +12,5 @@ returns c = ap value (search needs)
 returns-2 : tie.Need-returns-2
 returns-2 c = via-shown _ (search needs)
 
-pub of-number-spec : {M : Type 1} → statement M
-of-number-spec = tie.close (tie.spec returns returns-2)
+pub found-spec : {M : Type 1} → statement M
+found-spec = tie.close (tie.spec returns returns-2)
