@@ -72,23 +72,23 @@ moves-agree f g false zero l h = refl
 moves-agree f g false (suc k) l h = rw (h (l + k) (omega arith), moves-agree f g false k l (λ m i. h m (omega arith)))
 
 -- so a chain has one write more than were counted in the row of edge slots
-pub chain-length : {W : ℕ} {cs : List Cell} {row : List ℕ} {m : ℕ} (r : Run) → EdgesOf W (r .up) cs row → r .from + r .count ≤ W + 1 →
+pub chain-length : {W : ℕ} {cs : List Cell} {row : List ℕ} {m : ℕ} (r : Run) → EdgesOf W (r .up) cs row → r .from .0 + r .count ≤ W + 1 →
     m ≡ moves (slotIn row) (lengthsOf r) → (at : ℕ) (c : Cell) → m + 1 ≡ length (chainOf r cs at c)
 chain-length {cs = cs} r e i f at c =
-    ap (λ (x : ℕ). x + 1) (f ∙ moves-agree _ _ (r .up) (r .count) (r .from) (λ m l. e .of m (omega arith)))
+    ap (λ (x : ℕ). x + 1) (f ∙ moves-agree _ _ (r .up) (r .count) (r .from .0) (λ m l. e .of m (omega arith)))
     ∙ sym (length-chain (edgeOf (r .up) cs) cs (lengthsOf r) at c)
 
 -- so many moves were counted, and the lengths that are left give the rest
 pub record CountedMoves (edge : ℕ → Option ℕ) (r₀ r : Run) (w : ℕ) : Type 0 where
-  pub within : r .from + r .count ≤ 33
+  pub within : r .from .0 + r .count ≤ 33
   pub few : w + r .count ≤ r₀ .count
   pub left : w + moves edge (lengthsOf r) ≡ moves edge (lengthsOf r₀)
 
 module _ {edge : ℕ → Option ℕ} {r₀ r : Run} {w : ℕ} (h : CountedMoves edge r₀ r w) where
-  pub moves-turn : {next : Run} {l n : ℕ} {o : Option ℕ} → l ≡ lengthAt (r .up) (r .count) (r .from) → o ≡ edge l →
+  pub moves-turn : {next : Run} {l n : ℕ} {o : Option ℕ} → l ≡ lengthAt (r .up) (r .count) (r .from .0) → o ≡ edge l →
       n ≡ cond (isSome o) 1 0 → n ≤ 1 → ShorterBy r next → CountedMoves edge r₀ next (w + n)
   moves-turn {n = n} f e g i s =
-      let here : n ≡ cond (isSome (edge (lengthAt (r .up) (r .count) (r .from)))) 1 0 = rw (← f, ← e) g in
+      let here : n ≡ cond (isSome (edge (lengthAt (r .up) (r .count) (r .from .0)))) 1 0 = rw (← f, ← e) g in
       record {
         within = omega (arith, h .within, s .within);
         few = omega (arith, h .few, s .less);
@@ -96,7 +96,7 @@ module _ {edge : ℕ → Option ℕ} {r₀ r : Run} {w : ℕ} (h : CountedMoves 
       }
 
   pub moves-end : r .count ≤ 0 → w ≡ moves edge (lengthsOf r₀)
-  moves-end m = omega (arith, rw (run-none (r .up) (r .count) (r .from) m) at (h .left))
+  moves-end m = omega (arith, rw (run-none (r .up) (r .count) (r .from .0) m) at (h .left))
 
 -- w writes are in the plan; the lengths that are left and the last write give the rest of the row that is wanted, in which the chain
 -- begins at write `start`
@@ -104,7 +104,7 @@ pub record ChainPut (W : ℕ) (ad ts row : List ℕ) (c : Cell) (all : List Writ
   pub equal : length ad ≡ length ts
   pub few : length ad ≤ maxSlots
   pub edges : EdgesOf W (r .up) (cells ad ts) row
-  pub within : r .from + r .count ≤ W + 1
+  pub within : r .from .0 + r .count ≤ W + 1
   pub inside : at < length ad
   pub room : 3 * (start + length all) ≤ length plan₀
   pub size : length plan ≡ length plan₀
@@ -113,8 +113,8 @@ pub record ChainPut (W : ℕ) (ad ts row : List ℕ) (c : Cell) (all : List Writ
 
 module _ {W : ℕ} {ad ts row : List ℕ} {c : Cell} {all : List Write} {start : ℕ} {plan₀ plan : List ℕ} {r : Run} {at w : ℕ}
     (h : ChainPut W ad ts row c all start plan₀ plan r at w) where
-  module _ {l : ℕ} (f : l ≡ lengthAt (r .up) (r .count) (r .from)) (b : l < r .from + r .count) {o : Option ℕ} (e : o ≡ slotIn row l) where
-    here : edgeOf (r .up) (cells ad ts) (lengthAt (r .up) (r .count) (r .from)) ≡ o
+  module _ {l : ℕ} (f : l ≡ lengthAt (r .up) (r .count) (r .from .0)) (b : l < r .from .0 + r .count) {o : Option ℕ} (e : o ≡ slotIn row l) where
+    here : edgeOf (r .up) (cells ad ts) (lengthAt (r .up) (r .count) (r .from .0)) ≡ o
     here = sym (e ∙ h .edges .of l (omega (arith, h .within)) ∙ ap (edgeOf (r .up) (cells ad ts)) f)
 
     module _ {next : Run} (s : ShorterBy r next) where
@@ -168,7 +168,7 @@ module _ {W : ℕ} {ad ts row : List ℕ} {c : Cell} {all : List Write} {start :
 
   module _ (m : r .count ≤ 0) where
     ends : chainOf r (cells ad ts) at c ≡ write at c ∷ []
-    ends = rw (run-none (r .up) (r .count) (r .from) m)
+    ends = rw (run-none (r .up) (r .count) (r .from .0) m)
 
     pub chain-last : 3 * w + 3 ≤ length plan
     chain-last = omega (arith, h .room, h .size, rw ends at (h .count))

@@ -18,7 +18,7 @@ use borrow.Author.Tests.{eqb-true, eqb-false, eq-eqb, ne-eqb}
 use Rattle.route.specs.Refusals.{fine}
 use Rattle.tcam.specs.Slots.{Cell, cells, isFree, lengthIn, keepsS1, slotFault}
 use Rattle.tcam.specs.Plans.{firstSlot, lastSlot, orElse, ofLength}
-use Rattle.tcam.specs.Loops.{cellAt, edge, slotIn, asSlot, classOf, EdgesOf, visited}
+use Rattle.tcam.specs.Loops.{cellAt, edge, slotIn, asSlot, groupOf, EdgesOf, visited}
 use Rattle.tcam.proofs.Rows.{cells-at, getD-cells}
 use Rattle.tcam.proofs.Cells.{used-short, slot-keeps}
 
@@ -96,16 +96,16 @@ module _ (p : Cell → Bool) (ad ts : List ℕ) (e : length ad ≡ length ts) wh
   latest-edge true = let z : length ad - length ad ≡ 0 = omega arith in rw z at (latest-first (length ad) (omega arith))
   latest-edge false = rw (drop-length ad) at (latest-last (length ad) (omega arith))
 
--- the classes tell the lengths and the free slots apart
-class-length : (W l : ℕ) (c : Cell) → l ≤ W → eqb (classOf W c) l ≡ ofLength l c
-class-length W l c i = go (isFree c)
+-- the groups tell the lengths and the free slots apart
+group-length : (W l : ℕ) (c : Cell) → l ≤ W → eqb (groupOf W c) l ≡ ofLength l c
+group-length W l c i = go (isFree c)
   where
     go : (f : Bool) → eqb (cond f (W + 1) (lengthIn c)) l ≡ (not f && eqb (lengthIn c) l)
     go true = ne-eqb (W + 1) l (λ e. omega arith)
     go false = refl
 
-class-free : (W : ℕ) (c : Cell) → keepsS1 W c ≡ true → eqb (classOf W c) (W + 1) ≡ isFree c
-class-free W c k = go (isFree c) (used-short W c k)
+group-free : (W : ℕ) (c : Cell) → keepsS1 W c ≡ true → eqb (groupOf W c) (W + 1) ≡ isFree c
+group-free W c k = go (isFree c) (used-short W c k)
   where
     go : (f : Bool) → (f ≡ false → lengthIn c ≤ W) → eqb (cond f (W + 1) (lengthIn c)) (W + 1) ≡ f
     go true h = eq-eqb (W + 1) (W + 1) refl
@@ -116,13 +116,13 @@ keeps-at : (W : ℕ) (ad ts : List ℕ) → length ad ≡ length ts → (i : ℕ
     keepsS1 W (cellAt ad ts i) ≡ true
 keeps-at W ad ts e i f l = rw (getD-cells ad ts i e l) at (slot-keeps W 0 (cells ad ts) i f)
 
--- k slots were visited: the row has, for each class, the last one found among them
+-- k slots were visited: the row has, for each group, the last one found among them
 pub record EdgesAmong (W : ℕ) (up : Bool) (ad ts row : List ℕ) (k : ℕ) : Type 0 where
   pub within : k ≤ length ad
   pub equal : length ad ≡ length ts
   pub keeps : slotFault W 0 (cells ad ts) ≡ fine
   pub size : length row ≡ W + 2
-  pub of : (l : ℕ) → l ≤ W + 1 → slotIn row l ≡ latest up (λ c. eqb (classOf W c) l) (cellAt ad ts) (length ad) k
+  pub of : (l : ℕ) → l ≤ W + 1 → slotIn row l ≡ latest up (λ c. eqb (groupOf W c) l) (cellAt ad ts) (length ad) k
 
 pub edges-start : {W : ℕ} {up : Bool} {ad ts row : List ℕ} → length ad ≡ length ts → slotFault W 0 (cells ad ts) ≡ fine → row ≡ replicate (W + 2) 0 →
     EdgesAmong W up ad ts row 0
@@ -140,10 +140,10 @@ edges-start {W} e f z = record {
     none-at (suc n) (suc l) = none-at n l
 
 module _ {W : ℕ} {up : Bool} {ad ts row : List ℕ} {k : ℕ} (h : EdgesAmong W up ad ts row k) where
-  module _ (l : k < length ad) {s : ℕ} (visits : s ≡ visited up (length ad) k) {c : Cell} (is : c ≡ cellAt ad ts s) {n : ℕ} (e : n ≡ classOf W c) where
-    -- the slot's class is one of the row's
-    pub class-below : n < length row
-    class-below = rw e (go (isFree c) (used-short W c kept))
+  module _ (l : k < length ad) {s : ℕ} (visits : s ≡ visited up (length ad) k) {c : Cell} (is : c ≡ cellAt ad ts s) {n : ℕ} (e : n ≡ groupOf W c) where
+    -- the slot's group has a number in the row
+    pub group-below : n < length row
+    group-below = rw e (go (isFree c) (used-short W c kept))
       where
         kept : keepsS1 W c ≡ true
         kept = rw is (keeps-at W ad ts (h .equal) s (h .keeps) (rw visits (visited-below up (length ad) k l)))
@@ -161,27 +161,27 @@ module _ {W : ℕ} {up : Bool} {ad ts row : List ℕ} {k : ℕ} (h : EdgesAmong 
       of = λ m i. rw (add-one k) (go m i (eqb n m) refl);
     }
       where
-        test : (m : ℕ) → eqb (classOf W (cellAt ad ts (visited up (length ad) k))) m ≡ eqb n m
-        test m = ap (λ (x : ℕ). eqb x m) (sym (e ∙ ap (classOf W) (is ∙ ap (cellAt ad ts) visits)))
+        test : (m : ℕ) → eqb (groupOf W (cellAt ad ts (visited up (length ad) k))) m ≡ eqb n m
+        test m = ap (λ (x : ℕ). eqb x m) (sym (e ∙ ap (groupOf W) (is ∙ ap (cellAt ad ts) visits)))
 
         go : (m : ℕ) → m ≤ W + 1 → (b : Bool) → eqb n m ≡ b →
-            slotIn (set row n (s + 1)) m ≡ latest up (λ c. eqb (classOf W c) m) (cellAt ad ts) (length ad) (suc k)
+            slotIn (set row n (s + 1)) m ≡ latest up (λ c. eqb (groupOf W c) m) (cellAt ad ts) (length ad) (suc k)
         go m i true f =
             rw (test m ∙ f)
-            (ap (λ (x : ℕ). slotIn (set row n (s + 1)) x) (sym (eqb-true n m f)) ∙ ap asSlot (getD-set-same row n (s + 1) 0 class-below ∙ add-one s) ∙ ap some visits)
+            (ap (λ (x : ℕ). slotIn (set row n (s + 1)) x) (sym (eqb-true n m f)) ∙ ap asSlot (getD-set-same row n (s + 1) 0 group-below ∙ add-one s) ∙ ap some visits)
         go m i false f = rw (test m ∙ f) (ap asSlot (getD-set-other row n m (s + 1) 0 (λ q. eqb-false n m f (sym q))) ∙ h .of m i)
 
   pub edges-end : length ad ≤ k → EdgesOf W up (cells ad ts) row
   edges-end l = record {
     size = h .size;
-    of = λ m i. at-end m (omega arith) ∙ latest-agree up _ (ofLength m) (cellAt ad ts) (length ad) (length ad) (omega arith) (λ j b. class-length W m (cellAt ad ts j) i)
+    of = λ m i. at-end m (omega arith) ∙ latest-agree up _ (ofLength m) (cellAt ad ts) (length ad) (length ad) (omega arith) (λ j b. group-length W m (cellAt ad ts j) i)
         ∙ latest-edge (ofLength m) ad ts (h .equal) up;
     pool = at-end (W + 1) (omega arith)
-        ∙ latest-agree up _ isFree (cellAt ad ts) (length ad) (length ad) (omega arith) (λ j b. class-free W (cellAt ad ts j) (keeps-at W ad ts (h .equal) j (h .keeps) b))
+        ∙ latest-agree up _ isFree (cellAt ad ts) (length ad) (length ad) (omega arith) (λ j b. group-free W (cellAt ad ts j) (keeps-at W ad ts (h .equal) j (h .keeps) b))
         ∙ latest-edge isFree ad ts (h .equal) up;
   }
     where
-      at-end : (m : ℕ) → m ≤ W + 1 → slotIn row m ≡ latest up (λ c. eqb (classOf W c) m) (cellAt ad ts) (length ad) (length ad)
+      at-end : (m : ℕ) → m ≤ W + 1 → slotIn row m ≡ latest up (λ c. eqb (groupOf W c) m) (cellAt ad ts) (length ad) (length ad)
       at-end m i = let z : k ≡ length ad = omega (arith, h .within) in rw z at (h .of m i)
 
 -- a number of the row: 0 for none, or one more than the slot

@@ -75,14 +75,14 @@ lengthAt true k l = l
 lengthAt false k l = l + (k - 1)
 
 abbrev pub lengthsOf : Run → List ℕ
-lengthsOf r = run (r .up) (r .count) (r .from)
+lengthsOf r = run (r .up) (r .count) (r .from .0)
 
 -- a run of lengths without its first
 pub record ShorterBy (r next : Run) : Type 0 where
   pub same : next .up ≡ r .up
-  pub is : lengthsOf r ≡ lengthAt (r .up) (r .count) (r .from) ∷ lengthsOf next
+  pub is : lengthsOf r ≡ lengthAt (r .up) (r .count) (r .from .0) ∷ lengthsOf next
   pub less : suc (next .count) ≡ r .count
-  pub within : next .from + next .count ≤ r .from + r .count
+  pub within : next .from .0 + next .count ≤ r .from .0 + r .count
 
 -- the copies of a run's edge entries, then the last cell
 abbrev pub chainOf : Run → List Cell → ℕ → Cell → List Write
@@ -101,8 +101,9 @@ asSlot (suc s) = some s
 abbrev pub slotIn : List ℕ → ℕ → Option ℕ
 slotIn row l = asSlot (getD row l 0)
 
-abbrev pub classOf : ℕ → Cell → ℕ
-classOf W c = cond (isFree c) (W + 1) (lengthIn c)
+-- the group of a cell: the free slots are behind all lengths
+abbrev pub groupOf : ℕ → Cell → ℕ
+groupOf W c = cond (isFree c) (W + 1) (lengthIn c)
 
 pub record EdgesOf (W : ℕ) (up : Bool) (cs : List Cell) (row : List ℕ) : Type 0 where
   pub size : length row ≡ W + 2

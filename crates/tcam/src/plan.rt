@@ -22,6 +22,7 @@ ghost use Rattle.tcam.specs.Loops.{slotIn, EdgesOf, visited, lengthAt, l
 use crate::Planned;
 use crate::image::table_check;
 use crate::slots::Cell;
+use crate::slots::Group;
 use crate::slots::cell_at;
 use route::Check;
 use route::Counted;
@@ -65,57 +66,59 @@ impl Place {
 pub struct Run {
     pub up: bool,
     pub count: u32,
-    pub from: u32,
+    pub from: Length,
 }
 
 impl Run {
     // The lengths between length n and the pool.
     fn to(up: bool, n: Length) -> Run
         requires { ⌜ n .0 ≤ 32 ⌝ }
-        ensures { λ r. ⌜ (lengthsOf r ≡ runTo 32 up (n .0)) × (r .up ≡ up) × (r .from + r .count ≤ 33) ⌝ }
+        ensures { λ r. ⌜ (lengthsOf r ≡ runTo 32 up (n .0)) × (r .up ≡ up) × (r .from .0 + r .count ≤ 33) ⌝ }
     {
         let l = n.0;
         if 16 <= l {
             return Run {
                 up,
                 count: l - 16,
-                from: 16,
+                from: Length(16),
             };
         }
         Run {
             up,
             count: 15 - l,
-            from: l + 1,
+            from: Length(l + 1),
         }
     }
 
-    // The first length.
-    fn first(self) -> Length
-        requires { ⌜ (0 < self .count) × (self .from + self .count ≤ 33) ⌝ }
-        ensures { λ r. ⌜ (r .0 ≡ lengthAt (self .up) (self .count) (self .from)) × (r .0 < self .from + self .count) ⌝ }
+    // The group of the first length.
+    fn first(self) -> Group
+        requires { ⌜ (0 < self .count) × (self .from .0 + self .count ≤ 33) ⌝ }
+        ensures { λ r. ⌜ (r .0 ≡ lengthAt (self .up) (self .count) (self .from .0)) × (r .0 < self .from .0 + self .count) ⌝ }
     {
+        let from = self.from;
         if self.up {
-            return Length(self.from);
+            return Group::of_length(from);
         }
-        Length(self.from + (self.count - 1))
+        Group::of_length(Length(from.0 + (self.count - 1)))
     }
 
     // The lengths after the first.
     fn rest(self) -> Run
-        requires { ⌜ (0 < self .count) × (self .from + self .count ≤ 33) ⌝ }
+        requires { ⌜ (0 < self .count) × (self .from .0 + self .count ≤ 33) ⌝ }
         ensures { λ r. ⌜ ShorterBy self r ⌝ }
     {
+        let from = self.from;
         if self.up {
             return Run {
                 up: true,
                 count: self.count - 1,
-                from: self.from + 1,
+                from: Length(from.0 + 1),
             };
         }
         Run {
             up: false,
             count: self.count - 1,
-            from: self.from,
+            from,
         }
     }
 }
@@ -156,19 +159,21 @@ fn find_edges(addresses: &[u32], tags: &[u32], up: bool, row: &mut [u32])
     let mut k = 0;
     while k < m {
         let s = visit(up, m, k);
-        let l = cell_at(addresses, tags, s).class();
+        let g = cell_at(addresses, tags, s).group();
         let i = s.0;
-        row[l] = (i + 1) as u32;
+        let at = g.0;
+        row[at] = (i + 1) as u32;
         k += 1;
     }
 }
 
-// The edge slot of a class in a row of edge slots.
-fn edge_in(edges: &[u32], class: usize) -> Place
-    requires { ⌜ class < length (now edges) ⌝ }
-    ensures { λ r. ⌜ placeOf r ≡ slotIn (now (edges .entry)) class ⌝ }
+// The edge slot of a group in a row of edge slots.
+fn edge_in(edges: &[u32], g: Group) -> Place
+    requires { ⌜ g .0 < length (now edges) ⌝ }
+    ensures { λ r. ⌜ placeOf r ≡ slotIn (now (edges .entry)) (g .0) ⌝ }
 {
-    let s = edges[class];
+    let at = g.0;
+    let s = edges[at];
     if s == 0 {
         return Place::Nowhere;
     }
@@ -177,14 +182,13 @@ fn edge_in(edges: &[u32], class: usize) -> Place
 
 // How many lengths of a run have an edge slot.
 fn count_moves(edges: &[u32], run: Run) -> usize
-    requires { ⌜ (length (now edges) ≡ 34) × (run .from + run .count ≤ 33) ⌝ }
+    requires { ⌜ (length (now edges) ≡ 34) × (run .from .0 + run .count ≤ 33) ⌝ }
     ensures { λ r. ⌜ (r ≡ moves (slotIn (now (edges .entry))) (lengthsOf run)) × (r ≤ run .count) ⌝ }
 {
     let mut left = run;
     let mut moved = 0;
     while 0 < left.count {
-        let l = left.first();
-        moved += edge_in(edges, l.0 as usize).count();
+        moved += edge_in(edges, left.first()).count();
         left = left.rest();
     }
     moved
@@ -214,7 +218,7 @@ fn put_chain(
     plan: &mut [u32],
 )
     requires { ⌜ (length (now addresses) ≡ length (now tags)) × (length (now addresses) ≤ maxSlots) × (pool .0 < length (now addresses)) ⌝ }
-    requires { ⌜ EdgesOf 32 (run .up) (cells (now addresses) (now tags)) (now edges) × (run .from + run .count ≤ 33) ⌝ }
+    requires { ⌜ EdgesOf 32 (run .up) (cells (now addresses) (now tags)) (now edges) × (run .from .0 + run .count ≤ 33) ⌝ }
     requires { ⌜ 3 * (start + length (chainOf run (cells (now addresses) (now tags)) (pool .0) (cellOf last))) ≤ length (now plan) ⌝ }
     ensures { λ r. ⌜ now (plan .exit) ≡ sets (now (plan .entry)) (3 * start) (numbers (chainOf run (cells (now (addresses .entry)) (now (tags .entry))) (pool .0) (cellOf last))) ⌝ }
 {
@@ -222,8 +226,7 @@ fn put_chain(
     let mut vacant = pool;
     let mut w = start;
     while 0 < left.count {
-        let l = left.first();
-        let edge = edge_in(edges, l.0 as usize);
+        let edge = edge_in(edges, left.first());
         left = left.rest();
         let Place::At(s) = edge else {
             continue;
@@ -247,7 +250,7 @@ fn plan_chain(
     plan: &mut [u32],
 ) -> Planned
     requires { ⌜ (length (now addresses) ≡ length (now tags)) × (length (now addresses) ≤ maxSlots) × (pool .0 < length (now addresses)) ⌝ }
-    requires { ⌜ EdgesOf 32 (run .up) (cells (now addresses) (now tags)) (now edges) × (run .from + run .count ≤ 33) ⌝ }
+    requires { ⌜ EdgesOf 32 (run .up) (cells (now addresses) (now tags)) (now edges) × (run .from .0 + run .count ≤ 33) ⌝ }
     ensures { λ r. ⌜ IsPlanned (withRoom (length (now (plan .entry))) fine (chainOf run (cells (now (addresses .entry)) (now (tags .entry))) (pool .0) (cellOf last))) (now (plan .entry)) (counted r) (now (plan .exit)) ⌝ }
 {
     let writes = count_moves(edges, run) + 1;
@@ -270,7 +273,7 @@ fn plan_gap(
     plan: &mut [u32],
 ) -> Planned
     requires { ⌜ (length (now addresses) ≡ length (now tags)) × (length (now addresses) ≤ maxSlots) × (s .0 < length (now addresses)) × (edge .0 < length (now addresses)) ⌝ }
-    requires { ⌜ EdgesOf 32 (run .up) (cells (now addresses) (now tags)) (now edges) × (run .from + run .count ≤ 33) ⌝ }
+    requires { ⌜ EdgesOf 32 (run .up) (cells (now addresses) (now tags)) (now edges) × (run .from .0 + run .count ≤ 33) ⌝ }
     ensures { λ r. ⌜ IsPlanned (withRoom (length (now (plan .entry))) fine (removeBy (edgeOf (run .up) (cells (now (addresses .entry)) (now (tags .entry)))) (cells (now (addresses .entry)) (now (tags .entry))) (lengthsOf run) (s .0) (edge .0))) (now (plan .entry)) (counted r) (now (plan .exit)) ⌝ }
 {
     let free = Cell { address: 0, tag: 0 };
@@ -296,8 +299,8 @@ fn insert(addresses: &[u32], tags: &[u32], n: Length, c: Cell, plan: &mut [u32])
     let up = 16 <= n.0;
     let mut edges = [0; 34];
     find_edges(addresses, tags, up, &mut edges);
-    let pool = edge_in(&edges, 33);
-    let Place::At(s) = pool else {
+    let edge = edge_in(&edges, Group::pool());
+    let Place::At(s) = edge else {
         return Counted::Refused(Refusal::Full);
     };
     plan_chain(addresses, tags, &edges, Run::to(up, n), s, c, plan)
@@ -327,8 +330,7 @@ fn erase(addresses: &[u32], tags: &[u32], n: Length, s: Slot, plan: &mut [u32]) 
     let up = n.0 < 16;
     let mut edges = [0; 34];
     find_edges(addresses, tags, up, &mut edges);
-    let l = n.0 as usize;
-    let edge = edge_in(&edges, l).or(s);
+    let edge = edge_in(&edges, Group::of_length(n)).or(s);
     plan_gap(addresses, tags, &edges, Run::to(up, n), s, edge, plan)
 }
 

@@ -7,7 +7,7 @@ ghost use Rattle.route.specs.Shown.{verdictOf};
 ghost use Rattle.tcam.specs.Slots.{isFree, lengthIn, hopIn, keepsS1, isUpper, isLower, samePrefixIn, hits, slotsFault};
 ghost use Rattle.tcam.specs.Plans.{ofPrefix};
 ghost use Rattle.tcam.specs.Shown.{cellOf};
-ghost use Rattle.tcam.specs.Loops.{cellAt, classOf};
+ghost use Rattle.tcam.specs.Loops.{cellAt, groupOf};
 use crate::MAX_SLOTS;
 use route::Check;
 use route::Hop;
@@ -17,6 +17,24 @@ use route::Refusal;
 use route::Slot;
 use route::rule::covers;
 use route::rule::span_of;
+
+// The slots of one group: the entries of one length, or the pool's free slots. A row of edge slots
+// has a number for each group, the lengths 0 to 32 and then the pool.
+pub struct Group(pub usize);
+
+impl Group {
+    pub fn of_length(n: Length) -> Group
+        ensures { λ r. ⌜ r .0 ≡ n .0 ⌝ }
+    {
+        Group(n.0 as usize)
+    }
+
+    pub fn pool() -> Group
+        ensures { λ r. ⌜ r .0 ≡ 33 ⌝ }
+    {
+        Group(33)
+    }
+}
 
 // What a slot holds: an address, and a tag of a length and a hop.
 pub struct Cell {
@@ -98,15 +116,13 @@ impl Cell {
         !self.is_free() & (m.0 == n.0) & (self.address == address)
     }
 
-    // Its length, or 33 where it is free.
-    pub fn class(self) -> usize
-        ensures { λ r. ⌜ r ≡ classOf 32 (cellOf self) ⌝ }
+    pub fn group(self) -> Group
+        ensures { λ r. ⌜ r .0 ≡ groupOf 32 (cellOf self) ⌝ }
     {
         if self.is_free() {
-            return 33;
+            return Group::pool();
         }
-        let n = self.length();
-        n.0 as usize
+        Group::of_length(self.length())
     }
 
     // Whether a lookup of q stops here: the slot is used and matches.

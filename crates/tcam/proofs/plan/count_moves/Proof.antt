@@ -17,7 +17,7 @@ loop-holds c = record { within = search needs; few = search needs; left = search
 loop-again : tie.Need-loop-again Inv-loop μ-loop
 loop-again c =
     let e = c .before .before in
-    let f = e .before .before in
+    let f = e .before in
     moves-turn (f .before .before .before .loop .inv) (f .first .ensures .0) (e .edge-in .ensures) (c .before .count .ensures .0)
     (c .before .count .ensures .1) (c .rest .ensures)
 
@@ -28,5 +28,5 @@ pub count-moves-spec : {M : Type 1} → statement M
 count-moves-spec =
     tie.close
     (tie.spec
-    Inv-loop μ-loop loop-holds (λ c κs. search needs) (λ c. search needs) (λ c κs. search needs)
+    Inv-loop μ-loop loop-holds (λ c κs. search needs) (λ c κs. search needs)
     (λ c κs. search needs) (λ c. search needs) (λ c κs. search needs) (λ c. search needs) loop-again returns)

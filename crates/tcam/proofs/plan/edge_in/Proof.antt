@@ -5,8 +5,8 @@ use Rattle.tcam.proofs.Edges.{slot-none, slot-some}
 use Rattle.tcam.proofs.plan.edge_in.Statement.{statement}
 use Rattle.tcam.proofs.plan.edge_in.Tie as tie
 
-cast-t4 : tie.Need-cast-t4
-cast-t4 c = omega (arith, c .before .shared-slice-known .given (c .before .before .args .class))
+cast-t5 : tie.Need-cast-t5
+cast-t5 c = omega (arith, c .before .shared-slice-known .given (c .before .before .args .g .0))
 
 returns : tie.Need-returns
 returns c = slot-none _ (c .if1 .taken)
@@ -18,4 +18,4 @@ pub edge-in-spec : {M : Type 1} → statement M
 edge-in-spec =
     tie.close
     (tie.spec
-    (λ c. search needs) (λ c. search needs) returns (λ c. search needs) cast-t4 returns-2)
+    (λ c. search needs) (λ c. search needs) returns (λ c. search needs) cast-t5 returns-2)

@@ -20,7 +20,7 @@ edge-slot : (c : tie.After-or) →
 edge-slot c =
     let f = c .before .before .before .before .before in
     let s = f .before .before .before .before .before .before in
-    c .or .ensures ∙ ap (openAfter (s .args .s .0)) (c .before .edge-in .ensures ∙ f .find-edges .ensures .of (s .args .n .0) (s .pre .1))
+    c .or .ensures ∙ ap (openAfter (s .args .s .0)) ((rw (c .before .before .of-length .ensures) at (c .before .edge-in .ensures)) ∙ f .find-edges .ensures .of (s .args .n .0) (s .pre .1))
 
 plan-gap-requires : tie.Need-plan-gap-requires
 plan-gap-requires c κs =

@@ -1,9 +1,9 @@
--- The row has, for each class, the last slot found among the k visited ones. The measure is what is left to visit.
+-- The row has, for each group, the last slot found among the k visited ones. The measure is what is left to visit.
 use borrow.Author.Needs.{needs}
 use Prim.Native.Nat.{_-_, _<_}
 use native.Mathlib.Omega.{arith}
 use lib.ListN.{length}
-use Rattle.tcam.proofs.Edges.{EdgesAmong, edges-start, edges-turn, edges-end, class-below}
+use Rattle.tcam.proofs.Edges.{EdgesAmong, edges-start, edges-turn, edges-end, group-below}
 use Rattle.tcam.proofs.plan.find_edges.Statement.{statement}
 use Rattle.tcam.proofs.plan.find_edges.Tie as tie
 
@@ -16,9 +16,9 @@ abbrev μ-loop : tie.MeasureT-loop
 loop-holds : tie.Need-loop-holds Inv-loop μ-loop
 loop-holds c = edges-start (search needs) (search needs) (search needs)
 
--- the slot's class is one of the row's
-below : (c : tie.After-class Inv-loop μ-loop) → c .class .result < length (c .before .before .before .before .loop .row)
-below c = class-below (c .before .before .before .before .loop .inv) (search needs) (c .before .before .visit .ensures .0) (c .before .cell-at .ensures) (c .class .ensures)
+-- the slot's group has a number in the row
+below : (c : tie.After-group Inv-loop μ-loop) → c .group .result .0 < length (c .before .before .before .before .loop .row)
+below c = group-below (c .before .before .before .before .loop .inv) (search needs) (c .before .before .visit .ensures .0) (c .before .cell-at .ensures) (c .group .ensures)
 
 mul-row : tie.Need-mul-row Inv-loop μ-loop
 mul-row c = omega (arith, below c)
@@ -28,7 +28,7 @@ slice-write-row c = below c
 
 loop-again : tie.Need-loop-again Inv-loop μ-loop
 loop-again c =
-    edges-turn (c .before .before .before .before .loop .inv) (search needs) (c .before .before .visit .ensures .0) (c .before .cell-at .ensures) (c .class .ensures)
+    edges-turn (c .before .before .before .before .loop .inv) (search needs) (c .before .before .visit .ensures .0) (c .before .cell-at .ensures) (c .group .ensures)
 
 returns : tie.Need-returns Inv-loop μ-loop
 returns c = edges-end (c .before .loop .inv) (search needs)

@@ -15,25 +15,25 @@ use Rattle.tcam.proofs.plan.insert.Tie as tie
 returns : tie.Need-returns
 returns c =
     let e = c .before .before in
-    let f = e .before .before .before in
+    let f = e .before .before .before .before in
     let a = f .before .before .before .before .before .before .args in
     planned-refused (set-full 32 (cells (a .addresses .now) (a .tags .now)) (a .n .0) (cellOf (a .c)) (length (a .plan .now)) (leb 16 (a .n .0))
-    (sym (f .find-edges .ensures .pool) ∙ sym (e .edge-in .ensures) ∙ ap placeOf (c .enum-told .given .1)))
+    (sym (f .find-edges .ensures .pool) ∙ sym (rw (e .before .pool .ensures) at (e .edge-in .ensures)) ∙ ap placeOf (c .enum-told .given .1)))
 
 -- the pool's slot
 pool : (c : tie.After-known-told) →
-    let f = c .before .before .before .before .before .before in
+    let f = c .before .before .before .before .before .before .before in
     let a = f .before .before .before .before .before .before .args in
-    some (c .before .pool .given .0 .0 .0) ≡ edge (leb 16 (a .n .0)) isFree (cells (a .addresses .now) (a .tags .now))
+    some (c .before .edge .given .0 .0 .0) ≡ edge (leb 16 (a .n .0)) isFree (cells (a .addresses .now) (a .tags .now))
 pool c =
     let e = c .before .before .before in
-    let f = e .before .before .before in
-    sym (ap placeOf (c .before .pool .given .1)) ∙ e .edge-in .ensures ∙ f .find-edges .ensures .pool
+    let f = e .before .before .before .before in
+    sym (ap placeOf (c .before .edge .given .1)) ∙ (rw (e .before .pool .ensures) at (e .edge-in .ensures)) ∙ f .find-edges .ensures .pool
 
 plan-chain-requires : tie.Need-plan-chain-requires
 plan-chain-requires c κs =
     let k = c .before .before .before in
-    let f = k .before .before .before .before .before .before in
+    let f = k .before .before .before .before .before .before .before in
     let a = f .before .before .before .before .before .before .args in (
       (search needs, search needs, edge-bound (leb 16 (a .n .0)) isFree (a .addresses .now) (a .tags .now) (search needs) _ (pool k)),
       (rw (c .before .to .ensures .1) (f .find-edges .ensures), c .before .to .ensures .2),
@@ -44,7 +44,7 @@ returns-2 c =
     let p = c .before .before in
     let t = p .before .before in
     let k = t .before .before in
-    let f = k .before .before .before .before .before .before in
+    let f = k .before .before .before .before .before .before .before in
     let a = f .before .before .before .before .before .before .args in
     planned-same (set-chain 32 (cells (a .addresses .now) (a .tags .now)) (a .n .0) (cellOf (a .c)) (length (a .plan .now)) (t .to .result) refl (sym (pool k)) (t .to .ensures .1) (t .to .ensures .0))
     (p .plan-chain .ensures)
@@ -53,6 +53,6 @@ pub insert-spec : {M : Type 1} → statement M
 insert-spec =
     tie.close
     (tie.spec
-    (λ c. search needs) (λ c κs. search needs) (λ c. search needs) (λ c κs. search needs) (λ c. search needs)
-    (λ c. search needs) returns (λ c. search needs) (λ c κs. search needs) plan-chain-requires
+    (λ c. search needs) (λ c κs. search needs) (λ c. search needs) (λ c κs. search needs) (λ c κs. search needs)
+    (λ c. search needs) (λ c. search needs) returns (λ c. search needs) (λ c κs. search needs) plan-chain-requires
     (λ c. search needs) returns-2)

@@ -35,32 +35,32 @@ loop-holds c =
 
 edge-in-requires : tie.Need-edge-in-requires Inv-loop μ-loop
 edge-in-requires c κs =
-    let h = c .before .before .before .before .loop .inv in
-    omega (arith, c .before .first .ensures .1, h .within, h .edges .size)
+    let h = c .before .before .before .loop .inv in
+    omega (arith, c .first .ensures .1, h .within, h .edges .size)
 
 loop-again : tie.Need-loop-again Inv-loop μ-loop
 loop-again c =
     let r = c .before .before in
-    let f = r .before .before .before in
+    let f = r .before .before in
     chain-skip (f .before .before .before .loop .inv) (f .first .ensures .0) (f .first .ensures .1) (r .before .edge-in .ensures) (r .rest .ensures)
     (ap placeOf (c .enum-told .given .1))
 
 -- the length's edge entry has a slot, and there is room for its copy
 module _ (c : tie.After-known-told Inv-loop μ-loop) where
   abbrev loop : tie.At-loop Inv-loop μ-loop
-  loop = c .before .before .before .before .before .before .before .before .before
+  loop = c .before .before .before .before .before .before .before .before
 
   slot : c .before .edge .given .0 .0 .0 < length (loop .before .before .before .before .before .args .addresses .now)
   slot =
       let r = c .before .before .before in
-      let f = r .before .before .before in
+      let f = r .before .before in
       chain-slot (loop .loop .inv) (f .first .ensures .0) (f .first .ensures .1) (r .before .edge-in .ensures) (r .rest .ensures)
       (ap placeOf (c .before .edge .given .1))
 
   room : 3 * loop .loop .w + 3 ≤ length (loop .loop .plan)
   room =
       let r = c .before .before .before in
-      let f = r .before .before .before in
+      let f = r .before .before in
       chain-room (loop .loop .inv) (f .first .ensures .0) (f .first .ensures .1) (r .before .edge-in .ensures) (r .rest .ensures)
       (ap placeOf (c .before .edge .given .1))
 
@@ -81,7 +81,7 @@ loop-again-2 c =
     let p = c .before .before in
     let k = p .before .before .before in
     let r = k .before .before .before in
-    let f = r .before .before .before in
+    let f = r .before .before in
     chain-turn (f .before .before .before .loop .inv) (f .first .ensures .0) (f .first .ensures .1) (r .before .edge-in .ensures) (r .rest .ensures)
     (ap placeOf (k .before .edge .given .1)) (p .before .before .cell-at .ensures) (p .put-write .ensures)
 
@@ -99,7 +99,7 @@ pub put-chain-spec : {M : Type 1} → statement M
 put-chain-spec =
     tie.close
     (tie.spec
-    Inv-loop μ-loop loop-holds (λ c κs. search needs) (λ c. search needs) edge-in-requires
+    Inv-loop μ-loop loop-holds (λ c κs. search needs) edge-in-requires
     (λ c κs. search needs) (λ c. search needs) (λ c. search needs) (λ c. search needs) loop-again
     cell-at-requires put-write-requires add-w (λ c. search needs) loop-again-2 put-write-requires-2
     (λ c. search needs) returns)

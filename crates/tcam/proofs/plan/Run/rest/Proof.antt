@@ -9,10 +9,10 @@ use Rattle.tcam.proofs.plan.Run.rest.Tie as tie
 returns : tie.Need-returns
 returns c =
     let t = c .before .before in
-    let s = t .before .args .self in
+    let s = t .before .before .args .self in
     record {
       same = sym (t .if1 .taken);
-      is = rw (t .if1 .taken) (run-rising (s .count) (s .from) (search needs));
+      is = rw (t .if1 .taken) (run-rising (s .count) (s .from .0) (search needs));
       less = omega arith;
       within = omega arith;
     }
@@ -20,10 +20,10 @@ returns c =
 returns-2 : tie.Need-returns-2
 returns-2 c =
     let t = c .before in
-    let s = t .before .args .self in
+    let s = t .before .before .args .self in
     record {
       same = sym (t .if1 .left);
-      is = rw (t .if1 .left) (run-falling (s .count) (s .from) (search needs));
+      is = rw (t .if1 .left) (run-falling (s .count) (s .from .0) (search needs));
       less = omega arith;
       within = omega arith;
     }
