@@ -1,3 +1,3 @@
--- What the walks of the reader's functions share.
+-- What the walks of the reader's functions use.
 mod Typed
 mod RecordAt

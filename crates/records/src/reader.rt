@@ -1,7 +1,7 @@
 // A reader keeps the bytes it was given and its place in them.
 //
 // The work is done by `record_at`, over the bytes and a place; the functions here are thin over it.
-// A caller that has the bytes and a place needs no reader: `read` is the same in plain parameters.
+// `read` makes a reader and reads once, so a caller that has the bytes and a place needs none.
 ghost use mathlib.Core.Path.{_≡_};
 ghost use Rattle.records.specs.Records.{recordAt};
 ghost use Rattle.records.specs.Shown.{reply};
@@ -22,18 +22,21 @@ pub fn reader_at<'a>(src: &'a [u8], at: usize) -> Reader<'a>
     Reader { src, at }
 }
 
-// Where a reader stands.
-pub fn place<'a>(r: Reader<'a>) -> usize
-    ensures { λ n. ⌜ n ≡ r .entry .at ⌝ }
+// Reads the next record and moves behind it. At the end, or at a refusal, the reader stays.
+pub fn next<'s, 'a>(r: &'s mut Reader<'a>) -> Step
+    ensures { λ s. ⌜ IsNext (now (r .entry)) s (now (r .exit)) ⌝ }
 {
-    r.at
+    let s = record_at(r.src, r.at);
+    r.at = place_after(s, r.at);
+    s
 }
 
-// What stands at the reader's place.
-pub fn peek<'a>(r: Reader<'a>) -> Step
-    ensures { λ s. ⌜ reply s ≡ recordAt 32 (now (r .entry .src)) (r .entry .at) ⌝ }
+// What a reader of the bytes reads next from a place.
+pub fn read(bytes: &[u8], at: usize) -> Step
+    ensures { λ r. ⌜ reply r ≡ recordAt 32 (now (bytes .entry)) at ⌝ }
 {
-    record_at(r.src, r.at)
+    let mut r = reader_at(bytes, at);
+    next(&mut r)
 }
 
 // The place behind a step from a place: a record's next place. Where there is no record it is the
@@ -46,20 +49,4 @@ fn place_after(s: Step, at: usize) -> usize
         Step::End => at,
         Step::Refused(_) => at,
     }
-}
-
-// Reads the next record and moves behind it. At the end, or at a refusal, the reader stays.
-pub fn next<'s, 'a>(r: &'s mut Reader<'a>) -> Step
-    ensures { λ s. ⌜ IsNext (now (r .entry)) s (now (r .exit)) ⌝ }
-{
-    let s = record_at(r.src, r.at);
-    r.at = place_after(s, r.at);
-    s
-}
-
-// What a reader of the bytes finds at a place.
-pub fn read(bytes: &[u8], at: usize) -> Step
-    ensures { λ r. ⌜ reply r ≡ recordAt 32 (now (bytes .entry)) at ⌝ }
-{
-    peek(reader_at(bytes, at))
 }

@@ -43,7 +43,7 @@ use Rattle.records.proofs.record_at as record-at
 use Rattle.records.proofs.record_at.Symbol.{name as #records·record-at}
 
 module _ {M : Type 1} (𝓤 : URA M) (H : Heap 𝓤) (A : Atoms 𝓤) (mem : Memory → SProp 𝓤) (run : Routine → Fun 𝓤) where
-  -- the contract that the walks cite
+  -- the contract that the walk cites
   abbrev pub RecordAt : Contract 𝓤
   RecordAt = tripleOf 𝓤 H A record-at.signature (record-at.spec 𝓤 H A mem run)
 
