@@ -1,6 +1,6 @@
 -- The book's image about one length: seen from outside inward, the rows beyond it, its own, those between it and the pool, the
 -- pool, and the rows across the pool.
-use Prim.Native.Nat.{ℕ, _+_, _-_, _/_, _≤_}
+use Prim.Native.Nat.{ℕ, _+_, _-_, _≤_}
 use mathlib.Core.Path.{_≡_, refl, ap, _∙_}
 use mathlib.Core.Bool.{Bool, true, false, cond, _&&_}
 use mathlib.Core.List.{List, [], _∷_, _++_, append-nil}
@@ -12,10 +12,10 @@ use Rattle.tcam.specs.Slots.{Cell, free}
 use Rattle.tcam.specs.Plans.{falling}
 use Rattle.tcam.specs.Book.{Book, rows, entries, bookImage, between, rowsTurned, lengths}
 use Rattle.route.proofs.Tests.{byTest, either}
-use Rattle.claims.proofs.Times.{All, all-map, times, times-most, times-same, none}
+use Rattle.claims.proofs.Times.{All, all-map, times, times-same, none}
 use Rattle.claims.proofs.Join.{join, around, join-assoc, from-left, length-join, times-join}
 use Rattle.claims.proofs.Row.{Row}
-use Rattle.claims.proofs.Rows.{rows-join, rows-agree, rows-length, filledRows, length-falling}
+use Rattle.claims.proofs.Rows.{rows-join, rows-agree, rows-length, filledRows}
 use Rattle.claims.proofs.Lies.{upperLengths, lowerLengths, Other, Lies, halves}
 
 module _ (W : ℕ) (b : Book) where
@@ -70,9 +70,6 @@ module _ {W n : ℕ} (L : Lies W n) where
 
       unturned : (ls : List ℕ) → All (Other W n false) ls → times turns ls ≡ 0
       unturned ls h = none turns ls (all-map (Other W n false) _ (λ m q. rw (q .1)) ls h)
-
-  pub rowsTurned-few : (b : Book) → rowsTurned W b n (lengths W) ≤ W - W / 2
-  rowsTurned-few b = omega (arith, rowsTurned-is b, times-most (λ l. ltb 0 (length (b l))) innerLengths, length-falling (L .count) (L .from), L .few)
 
   -- the image with these rows in these places
   abbrev pub laid : (outer own inner : List Cell) (p : ℕ) (far : List Cell) → List Cell

@@ -39,8 +39,9 @@ pub mod RemoveCall
 pub mod Demand3
 -- a set has a table
 pub mod HasTable
--- the report from the book
+-- the report from the book, and the room for its plans
 pub mod ReportOfBook
+pub mod PlanRoom
 pub mod Example
 -- a plan applied again, update records
 pub mod Reapplied

@@ -44,7 +44,6 @@ pub record Lies (W n : ℕ) : Type 0 where
   pub is : isUpperLength W n ≡ side
   pub near : cond side (upperLengths W) (lowerLengths W) ≡ around side outer n (falling count from)
   pub within : from + count ≤ W
-  pub few : count ≤ W - W / 2
   pub beyond : All (Other W n false) outer
   pub inside : All (Other W n true) (falling count from)
   pub across : All (Other W n false) (cond side (lowerLengths W) (upperLengths W))
@@ -70,7 +69,6 @@ module _ (W n : ℕ) where
         let e : W - W / 2 + 1 ≡ W - n + suc (n - W / 2) = omega arith in
         rw e (falling-about (W - n) (n - W / 2) (W / 2) n (omega arith));
     within = omega arith;
-    few = omega arith;
     beyond = run-all false _ (W - n) (n + 1) (λ m x y. (omega arith, rw upper (out-range (W / 2) n m (λ j k. omega arith))));
     inside = run-all false _ (n - W / 2) (W / 2) (λ m x y. (omega arith, rw upper (in-range (W / 2) n m x (omega arith))));
     across = run-all false _ (W / 2) 0 (λ m x y. (omega arith, rw upper (out-range (W / 2) n m (λ j k. omega arith))));
@@ -91,7 +89,6 @@ module _ (W n : ℕ) where
         ap (λ (k : ℕ). falling k 0) e ∙ falling-about (W / 2 - 1 - n) n 0 n (zero-add n)
         ∙ sym (append-assoc (falling (W / 2 - 1 - n) (n + 1)) (n ∷ []) (falling n 0));
     within = omega arith;
-    few = omega arith;
     beyond = run-all false _ n 0 (λ m x y. (omega arith, rw lower (out-range (suc n) (W / 2) m (λ j k. omega arith))));
     inside = run-all false _ (W / 2 - 1 - n) (n + 1) (λ m x y. (omega arith, rw lower (in-range (suc n) (W / 2) m (omega arith) (omega arith))));
     across = run-all false _ (W - W / 2 + 1) (W / 2) (λ m x y. (omega arith, rw lower (out-range (suc n) (W / 2) m (λ j k. omega arith))));

@@ -8,14 +8,14 @@ use lib.ListN.{length}
 use Rattle.route.specs.Rule.{Route}
 use Rattle.route.specs.Refusals.{Verdict, fine, fault, faultIf, _then_, prefixFault, refused, absentRefusal}
 use Rattle.tcam.specs.Slots.{maxSlots, Cell, free}
-use Rattle.tcam.specs.Plans.{Planned, refuses, ofPrefix, firstSlot, removePresent, removeAt, ifFine, planRemove}
+use Rattle.tcam.specs.Plans.{Planned, refuses, ofPrefix, firstSlot, mostToRemove, removePresent, removeAt, ifFine, planRemove}
 use Rattle.tcam.specs.Book.{Book, BookAnswer, bookImage, hasAddress, isUpperLength, atEdge, afterRemove, rowsTurned, lengths, countIf}
 use Rattle.tcam.specs.Book.{settled, bookRemove}
 use Rattle.tcam.specs.Tables.{routesIn, addresses, tags}
 use Rattle.tcam.proofs.SlotsAgree.{imageKeepsS1}
 use Rattle.tcam.proofs.Whole.{Makeable, removePresent-makeable}
-use Rattle.claims.specs.Sequence.{mostToRemove, Table, Plan, State, planned, without}
-use Rattle.claims.proofs.Times.{countIf-most}
+use Rattle.tcam.proofs.Most.{removePresent-most}
+use Rattle.claims.specs.Sequence.{Table, Plan, State, planned, without}
 use Rattle.claims.proofs.Found.{Found, Search, absent, present, searched}
 use Rattle.claims.proofs.Walk.{walk-times}
 use Rattle.claims.proofs.Image.{BookOk}
@@ -26,7 +26,7 @@ use Rattle.claims.proofs.Next.{same-removed}
 use Rattle.claims.proofs.Apply.{cells-back, no-size-fault}
 use Rattle.claims.proofs.Cuts.{starts-inside, leads-removed}
 use Rattle.claims.proofs.Entry.{prefix-length}
-use Rattle.claims.proofs.Updates.{update-remove, found-prefix, cleared-present, stands-at, stands-nowhere, rowsTurned-most}
+use Rattle.claims.proofs.Updates.{update-remove, found-prefix, cleared-present, stands-at, stands-nowhere}
 use Rattle.claims.proofs.Answer.{Holding, Answered, answers-refused, answers-room}
 
 module _ (W M : ℕ) (i : 1 ≤ M) (j : M ≤ maxSlots) (b : Book) (ok : BookOk W M b) (rs : List Route) (same : Same (routesIn (bookImage W M b)) rs)
@@ -61,7 +61,7 @@ module _ (W M : ℕ) (i : 1 ≤ M) (j : M ≤ maxSlots) (b : Book) (ok : BookOk 
       (afterRemove W b n a) many
       (leads-removed W M b ok rs same (q .entry) free (λ s. removePresent W cs n s) (afterRemove W b n a) many u (without a n rs) next
       makeable refl (omega arith))
-      (u .walks .many) (omega (arith, rowsTurned-most W M b ok n bits, countIf-most (not (atEdge (isUpperLength W n) a (b n))))))
+      (u .walks .many) (omega (arith, u .walks .many, removePresent-most W cs n bits (length (u .front)))))
     where
       u : Update W M b (q .entry) free (λ s. removePresent W cs n s) (afterRemove W b n a) many
       u = update-remove W M b ok n bits a q

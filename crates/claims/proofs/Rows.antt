@@ -21,10 +21,6 @@ falling-split (suc j) k l =
     let e : l + (j + k) ≡ l + k + j = omega arith in
     rw (suc-add, e) (ap (λ (ls : List ℕ). (l + k + j) ∷ ls) (falling-split j k l))
 
-pub length-falling : (k l : ℕ) → length (falling k l) ≡ k
-length-falling zero l = refl
-length-falling (suc k) l = ap suc (length-falling k l)
-
 -- the least length apart
 falling-inner : (k l : ℕ) → falling (suc k) l ≡ falling k (l + 1) ++ (l ∷ [])
 falling-inner k l = ap (λ (n : ℕ). falling n l) (sym (add-one k)) ∙ falling-split k 1 l ∙ rw add-zero

@@ -11,13 +11,14 @@ use Rattle.route.specs.Rule.{Route}
 use Rattle.route.specs.Refusals.{Verdict, fine, fault, faultIf, _then_, prefixFault, hopFault, refused, fullRefusal}
 use Rattle.route.specs.Lists.{hasPrefix}
 use Rattle.tcam.specs.Slots.{maxSlots, Cell, free}
-use Rattle.tcam.specs.Plans.{Write, Planned, refuses, withRoom, ofPrefix, firstSlot, setAbsent, setAt, ifFine, planSet, write}
+use Rattle.tcam.specs.Plans.{Write, Planned, refuses, withRoom, ofPrefix, firstSlot, mostToSet, setAbsent, setAt, ifFine, planSet, write}
 use Rattle.tcam.specs.Book.{Book, BookAnswer, bookImage, hasAddress, hasEntry, replaced, afterSet, rowsTurned, lengths, entries}
 use Rattle.tcam.specs.Book.{countIf, settled, bookSet}
 use Rattle.tcam.specs.Tables.{routesIn, addresses, tags}
 use Rattle.tcam.proofs.SlotsAgree.{imageKeepsS1}
 use Rattle.tcam.proofs.Whole.{Makeable, none-makeable, write-makeable, setAbsent-makeable}
-use Rattle.claims.specs.Sequence.{mostToSet, Table, Plan, State, planned, without}
+use Rattle.tcam.proofs.Most.{setAbsent-most}
+use Rattle.claims.specs.Sequence.{Table, Plan, State, planned, without}
 use Rattle.claims.proofs.Times.{times}
 use Rattle.claims.proofs.Row.{IsEntry, at}
 use Rattle.claims.proofs.Found.{Found, found-once, Search, absent, present, searched}
@@ -29,7 +30,7 @@ use Rattle.claims.proofs.Apply.{cells-back, no-size-fault}
 use Rattle.claims.proofs.Cuts.{starts-inside, Leads, leads-set, leads-replaced, leads-unchanged}
 use Rattle.claims.proofs.Entry.{cellOf, prefix-length}
 use Rattle.claims.proofs.Updates.{update-replace, found-prefix, cleared-present, stands-at, stands-there, stands-nowhere}
-use Rattle.claims.proofs.Updates.{full-is, rowsTurned-most}
+use Rattle.claims.proofs.Updates.{full-is}
 use Rattle.claims.proofs.HasPrefix.{set-lacks, set-has, hasEntry-is}
 use Rattle.claims.proofs.NewEntry.{new-entry, same-next, joins, same-joins}
 use Rattle.claims.proofs.Answer.{Holding, Answered, answers-refused, answers-room}
@@ -100,7 +101,7 @@ module _ (W M : ℕ) (i : 1 ≤ M) (j : M ≤ maxSlots) (b : Book) (ok : BookOk 
         (rw (set-lacks W M b ok rs same a n h bits z)
         (leads-set W M b ok rs same free new (λ s. setAbsent W cs n new) bookAfterSet writesToJoin u nextSet
         (same-joins W M b ok rs same a n h f g z space) makeable refl (omega arith)))
-        (u .walks .many) (omega (arith, rowsTurned-most W M b ok n bits))
+        (u .walks .many) (omega (arith, u .walks .many, setAbsent-most W cs n bits new))
       where
         u : Update W M b free new (λ s. setAbsent W cs n new) bookAfterSet writesToJoin
         u = joins W M b ok rs same a n h f g z space

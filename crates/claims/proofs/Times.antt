@@ -5,12 +5,8 @@ use mathlib.Core.Bool.{Bool, true, false}
 use mathlib.Core.List.{List, [], _∷_, _++_}
 use native.Mathlib.Nat.{zero-add, le-refl}
 use native.Mathlib.Omega.{arith}
-use lib.ListN.{length, set, replicate}
+use lib.ListN.{set, replicate}
 use Rattle.tcam.specs.Book.{countIf}
-
-pub countIf-most : (t : Bool) → countIf t ≤ 1
-countIf-most true = le-refl 1
-countIf-most false = zero-le
 
 module _ {A : Type 0} where
   abbrev pub All : (A → Type 0) → List A → Type 0
@@ -41,10 +37,6 @@ module _ {A : Type 0} where
   pub times-append : (p : A → Bool) (xs ys : List A) → times p (xs ++ ys) ≡ times p xs + times p ys
   times-append p [] ys = sym (zero-add (times p ys))
   times-append p (x ∷ xs) ys = omega (arith, times-append p xs ys)
-
-  pub times-most : (p : A → Bool) (xs : List A) → times p xs ≤ length xs
-  times-most p [] = zero-le
-  times-most p (x ∷ xs) = omega (arith, countIf-most (p x), times-most p xs)
 
   pub times-mono : (s t : A → Bool) → ((x : A) → s x ≡ true → t x ≡ true) → (xs : List A) → times s xs ≤ times t xs
   times-mono s t h [] = zero-le

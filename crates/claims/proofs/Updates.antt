@@ -1,5 +1,5 @@
 -- The updates on either side of the pool, and where a prefix stands.
-use Prim.Native.Nat.{ℕ, _+_, _-_, _/_, _≤_}
+use Prim.Native.Nat.{ℕ, _+_, _≤_}
 use mathlib.Core.Path.{_≡_, refl, sym, ap, _∙_}
 use mathlib.Core.Bool.{Bool, true, false, not}
 use mathlib.Core.List.{List, _∷_, _++_}
@@ -11,23 +11,19 @@ use lib.Seq.{getD-append-seam}
 use borrow.Author.Tests.{eq-eqb, le-ltb, lt-ltb, leb-true, leb-false}
 use Rattle.tcam.specs.Slots.{Cell, free, isFree}
 use Rattle.tcam.specs.Plans.{ofLength, ofPrefix, firstSlot, isSome}
-use Rattle.tcam.specs.Book.{Book, bookImage, entries, rowsTurned, lengths, countIf}
+use Rattle.tcam.specs.Book.{Book, bookImage, entries, countIf}
 use Rattle.route.proofs.Tests.{both, clash}
 use Rattle.claims.proofs.Times.{times, times-append}
 use Rattle.claims.proofs.Find.{edge-none, edge-some, found-some}
 use Rattle.claims.proofs.Row.{at}
 use Rattle.claims.proofs.Found.{Found, found-entry}
 use Rattle.claims.proofs.Chain.{entry-of}
-use Rattle.claims.proofs.Lies.{lies}
-use Rattle.claims.proofs.Image.{BookOk, rowsTurned-few}
+use Rattle.claims.proofs.Image.{BookOk}
 use Rattle.claims.proofs.Prefix.{free-slots, prefix-times}
 use Rattle.claims.proofs.Next.{Cleared}
 pub use Rattle.claims.proofs.Side.{update-set, update-remove, update-replace}
 
 module _ (W M : ℕ) (b : Book) (ok : BookOk W M b) (n : ℕ) (i : n ≤ W) where
-  pub rowsTurned-most : rowsTurned W b n (lengths W) ≤ W - W / 2
-  rowsTurned-most = rowsTurned-few (lies W n i) b
-
   module _ (a : ℕ) (f : Found a (b n)) where
     pub found-prefix : ofPrefix a n (f .entry) ≡ true
     found-prefix = both (ofLength n (f .entry)) (eqb (f .entry .address) a) (entry-of (found-entry f true (ok .row n))) (eq-eqb (f .entry .address) a (f .has))

@@ -13,12 +13,12 @@ use Rattle.prefixes.specs.Prefixes.{prefixesLookup}
 use Rattle.tcam.specs.Slots.{Cell, free, lengthIn, hopIn}
 use Rattle.tcam.specs.Tables.{addresses, tags}
 use Rattle.tcam.specs.Plans
-use Rattle.tcam.specs.Plans.{Write, Planned, refuses, writes, planSet, planRemove}
+use Rattle.tcam.specs.Plans.{Write, Planned, refuses, writes, mostToSet, mostToRemove, planSet, planRemove}
 use Rattle.tcam.specs.Applies.{written}
 use Rattle.ranges.specs.Ranges.{Range, rangesOf}
 use Rattle.dxr.specs.Dxr.{partOf}
 use Rattle.dxr.specs.Builds.{mainOf, wordsOf}
-use Rattle.claims.specs.Sequence.{mostToSet, mostToRemove}
+use Rattle.history.specs.Reports.{planRoom}
 
 -- an address by its four octets
 abbrev pub ip : ℕ → ℕ → ℕ → ℕ → ℕ
@@ -55,12 +55,12 @@ abbrev pub made : Planned → List Write
 made (refuses n p) = []
 made (writes ws) = ws
 
--- plan the set of a route into a row of 54 numbers, and plan the removal of a prefix
+-- plan the set of a route into a row with room for every plan, and plan the removal of a prefix
 abbrev pub setWrites : List Cell → Route → List Write
-setWrites cs r = made (planSet 32 (addresses cs) (tags cs) (r .address) (r .length) (r .hop) 54)
+setWrites cs r = made (planSet 32 (addresses cs) (tags cs) (r .address) (r .length) (r .hop) planRoom)
 
 abbrev pub removeWrites : List Cell → ℕ → ℕ → List Write
-removeWrites cs a n = made (planRemove 32 (addresses cs) (tags cs) a n 54)
+removeWrites cs a n = made (planRemove 32 (addresses cs) (tags cs) a n planRoom)
 
 -- the routes set in turn, each plan applied whole: how many writes each has, and the table after
 abbrev pub counts : List Cell → List Route → List ℕ

@@ -6,6 +6,7 @@ pub mod Board
 -- Update records, the report, answers as values.
 pub mod RecordForms
 pub mod ReportOfBook
+pub mod PlanRoom
 pub mod Example
 pub mod Determined
 -- All claims.

@@ -5,7 +5,7 @@
 -- the table sound; and that an accepted one is bounded and right at every cut. At each apply of a plan it says that the table is sound
 -- again: the image of the book, and a table of its set; at each refused apply, that the table is as it was. The claim goes on after
 -- every call.
-use Prim.Native.Nat.{ℕ, _+_, _-_, _/_, _≤_}
+use Prim.Native.Nat.{ℕ, _≤_}
 use mathlib.Core.Path.{_≡_}
 use mathlib.Core.Logic.{_≢_}
 use mathlib.Core.Bool.{cond, _&&_}
@@ -18,7 +18,7 @@ use Rattle.route.specs.RightHop.{Right}
 use Rattle.route.specs.Lists.{hasPrefix}
 use Rattle.tcam.specs.Slots.{maxSlots, Cell, cells, free, slotLookup}
 use Rattle.tcam.specs.Tables.{addresses, tags, TableOf}
-use Rattle.tcam.specs.Plans.{Planned, refuses, writes, planSet, planRemove, planAnswer, rowAfter}
+use Rattle.tcam.specs.Plans.{Planned, refuses, writes, mostToSet, mostToRemove, planSet, planRemove, planAnswer, rowAfter}
 use Rattle.tcam.specs.Applies.{applyFault, applyAnswer, appliedAddresses, appliedTags}
 use Rattle.tcam.specs.Book.{Book, BookAnswer, emptyBook, bookImage, bookSet, bookRemove}
 
@@ -81,13 +81,6 @@ pub record AcceptedPlan (W most : ℕ) (p : Plan) (before next : Table) : Type 0
   pub rightBefore : (q : ℕ) → Right W (before .routes) q (answer W (before .routes) q)
   pub rightAfter : (q : ℕ) → Right W (next .routes) q (answer W (next .routes) q)
   pub cuts : (k : ℕ) → k ≤ p .writes → Cut W p before next k
-
--- the most writes of a plan, over the width W
-abbrev pub mostToSet : ℕ → ℕ
-mostToSet W = W - W / 2 + 1
-
-abbrev pub mostToRemove : ℕ → ℕ
-mostToRemove W = W - W / 2 + 2
 
 -- a set or a removal: its plan, the book's answer, the set after it if it is accepted, the first of so many writes from which
 -- lookups answer for that set, and the most writes

@@ -3,14 +3,14 @@
 -- The header names the slots. The records are read from place to place; each update is planned on the table, and its plan is applied whole.
 -- It has a line, a refused one too, which leaves the table as it is. A record that cannot be read has a line like a refused update, and is
 -- the last. Then the used slots follow in rising order, and the end. An input that is too long is not read at all. Addresses have 32 bits.
-use Prim.Native.Nat.{ℕ, zero, suc, _+_}
+use Prim.Native.Nat.{ℕ, zero, suc, _+_, _*_}
 use mathlib.Core.Bool.{cond}
 use mathlib.Core.List.{List, [], _∷_, _++_}
 use lib.Dec.{ltb}
 use lib.ListN.{length, replicate}
 use Rattle.tcam.specs.Slots.{Cell, cells, isFree, usedIn}
 use Rattle.tcam.specs.Tables.{routeOf}
-use Rattle.tcam.specs.Plans.{Planned, refuses, writes, planSet, planRemove}
+use Rattle.tcam.specs.Plans.{Planned, refuses, writes, mostToRemove, planSet, planRemove}
 use Rattle.tcam.specs.Applies.{stored}
 use Rattle.records.specs.Records.{Update, removal, setting, Reply, update, ended, refusedAt, recordAt}
 use Rattle.lines.specs.Lines.{headerLine, setLine, removeLine, refusedLine, slotLine, endLine, tooLongLine}
@@ -23,9 +23,9 @@ maxInput = 65536
 abbrev pub reportSlots : ℕ
 reportSlots = 1024
 
--- the cells of a plan's row: room for 18 writes, the most that a plan has
+-- the cells of a plan's row: three for each of the most writes that a plan has
 abbrev pub planRoom : ℕ
-planRoom = 54
+planRoom = 3 * mostToRemove 32
 
 -- the two rows of a table
 pub record Rows : Type 0 where

@@ -11,13 +11,14 @@ ghost use Rattle.history.specs.Steps.{sizeOf, IsUpdated, IsReported};
 use lines::line;
 use records::Record;
 use route::Counted;
+use tcam::MAX_WRITES;
 use tcam::apply::apply;
 use tcam::image::used_slots;
 use tcam::plan::plan_remove;
 use tcam::plan::plan_set;
 
-// The cells of a plan's row: room for 18 writes, the most that a plan has.
-const PLAN_CELLS: usize = 54;
+// The cells of a plan's row: three for each write.
+const PLAN_CELLS: usize = 3 * MAX_WRITES;
 
 // Plans what a record asks for.
 fn plan_of(asked: Record, addresses: &[u32], tags: &[u32], plan: &mut [u32]) -> Counted

@@ -55,7 +55,7 @@ module _ (up : Bool) (p : Cell → Bool) (ad ts : List ℕ) (e : length ad ≡ l
   open-bound l = rw (length-cells ad ts e) at (open-within up p (cells ad ts) s (rw (length-cells ad ts e) l))
 
 -- one write for each length with an edge slot, and the last
-length-chain : (edge : ℕ → Option ℕ) (cs : List Cell) (ls : List ℕ) (at : ℕ) (c : Cell) → length (chain edge cs ls at c) ≡ moves edge ls + 1
+pub length-chain : (edge : ℕ → Option ℕ) (cs : List Cell) (ls : List ℕ) (at : ℕ) (c : Cell) → length (chain edge cs ls at c) ≡ moves edge ls + 1
 length-chain edge cs [] at c = refl
 length-chain edge cs (l ∷ ls) at c = go (edge l) refl (λ a. length-chain edge cs ls a c)
   where

@@ -10,7 +10,8 @@ pub mod Writes
 pub mod Runs
 pub mod Edges
 pub mod Chains
--- What a plan answers and leaves, and that it can be applied.
+-- What a plan answers and leaves, that it can be applied, and the most writes that it has.
 pub mod Planned
 pub mod Whole
 pub mod Stores
+pub mod Most

@@ -91,6 +91,14 @@ removePresent W cs n s =
     (removeBy (lastOf cs) cs (falling (n - W / 2) (W / 2)) s (openAfter s (lastOf cs n)))
     (removeBy (firstOf cs) cs (rising (W / 2 - 1 - n) (n + 1)) s (openAfter s (firstOf cs n)))
 
+-- the most writes of a plan, over the width W: one for each length between the prefix and the pool, and the last; a removal can move
+-- an entry of its own length first
+abbrev pub mostToSet : ℕ → ℕ
+mostToSet W = W - W / 2 + 1
+
+abbrev pub mostToRemove : ℕ → ℕ
+mostToRemove W = W - W / 2 + 2
+
 -- what a plan comes to
 pub data Planned : Type 0 where
   refuses : (number place : ℕ) → Planned
