@@ -11,6 +11,7 @@ use Rattle.claims.proofs.Reapplied.{reapplied}
 use Rattle.claims.proofs.Board.{board}
 use Rattle.claims.proofs.RecordForms.{recordForms}
 use Rattle.claims.proofs.ReportOfBook.{reportOfBook}
+use Rattle.claims.proofs.PlanRoom.{plansHaveRoom}
 use Rattle.claims.proofs.Example.{example}
 
 pub claims : Claims
@@ -23,6 +24,7 @@ claims = record {
   records = recordForms;
   parts = wholeReport;
   report = reportOfBook;
+  planRoom = plansHaveRoom;
   example = example;
   determined = record {
     checks = check-determined;

@@ -9,6 +9,7 @@ use Rattle.claims.specs.Reapplied.{Reapplied}
 use Rattle.claims.specs.Board.{got, expected}
 use Rattle.claims.specs.RecordForms.{RecordForms}
 use Rattle.claims.specs.ReportOfBook.{ReportOfBook}
+use Rattle.claims.specs.PlanRoom.{PlansHaveRoom}
 use Rattle.claims.specs.Example.{Example}
 use Rattle.claims.specs.Determined.{Determined}
 
@@ -34,6 +35,8 @@ pub record Claims : Type 0 where
   pub parts : (bs rooms : List ℕ) → WholeReport bs rooms
   -- The report of any input can be worked out from the book alone.
   pub report : ReportOfBook
+  -- No update of a report is refused with 9: the row that it lends to a plan has room for every plan.
+  pub planRoom : PlansHaveRoom
   -- The report of the board's example is the text on the board.
   pub example : Example
   -- What a call shows, its number, place and values, determines the value that it returns.
