@@ -3,19 +3,20 @@
 -- One way by induction on the entries: the tests of the first leave its facts, and the rest was compared with it. The other way each
 -- test comes out right by those facts.
 use Prim.Native.Nat.{ℕ, _+_, _%_, _≤_, _<_}
-use mathlib.Core.Path.{_≡_, refl, sym, subst⁻¹}
+use mathlib.Core.Path.{_≡_, refl, sym, subst⁻¹, _∙_}
 use mathlib.Core.Logic.{_↔_}
 use mathlib.Core.Bool.{false}
 use mathlib.Core.List.{List, [], _∷_, List·Memᴰ·head, List·Memᴰ·tail}
 use lib.Dec.{eqb, ltb}
-use lib.ListN.{length}
+use lib.ListN.{length, take}
+use lib.Seq.{take-all, take-length}
 use native.Mathlib.Omega.{arith}
 use borrow.Author.Tests.{eqb-true, eq-eqb, ne-eqb, leb-true, le-leb, le-ltb, not-false}
 use Rattle.route.specs.Limits.{maxHop, maxRoutes}
 use Rattle.route.specs.Rule.{Route, span}
-use Rattle.route.specs.Refusals.{value, refused, fine, fault, faultIf, entryFault, prefixFault, hopFault, lengthRefusal, twiceRefusal}
+use Rattle.route.specs.Refusals.{Verdict, Answer, value, refused, unlessFault, fine, fault, faultIf, entryFault, prefixFault, hopFault, lengthRefusal, twiceRefusal}
 use Rattle.route.specs.RightHop.{_∈_}
-use Rattle.route.specs.Lists.{samePrefix, hasPrefix, listFault, routes, rowsSizeFault, rowsFault, listCheck}
+use Rattle.route.specs.Lists.{samePrefix, hasPrefix, listFault, routes, EqualRows, rowsSizeFault, rowsFault, listCheck}
 use Rattle.route.specs.RowsOfSet.{Valid, Distinct, RowsOfSet}
 use Rattle.route.proofs.Members.{any-so}
 use Rattle.route.proofs.RouteSet.{RouteSet, routeSet}
@@ -100,6 +101,31 @@ listFine W i earlier (r ∷ rs) v d f =
     (listFine W (i + 1) (r ∷ earlier) rs (λ s m. v s (List·Memᴰ·tail m)) (d .1)
     (λ s m. neither (samePrefix s r) _ (otherPrefix r s (d .0 s m)) (f s (List·Memᴰ·tail m))))
 
+-- rows of a right size have one length, their fault is that of the entries, and the parts that are as long as the first row are the rows
+pub record Sized (ad ns hs : List ℕ) : Type 0 where
+  pub size : fine ≡ rowsSizeFault ad ns hs
+  pub equal : EqualRows ad ns hs
+  pub few : length ad ≤ maxRoutes
+  pub entries : (W : ℕ) → rowsFault W ad ns hs ≡ listFault W 0 [] (routes ad ns hs)
+  pub addresses : take (length ad) ad ≡ ad
+  pub lengths : take (length ad) ns ≡ ns
+  pub hops : take (length ad) hs ≡ hs
+
+pub sized : (ad ns hs : List ℕ) → fine ≡ rowsSizeFault ad ns hs → Sized ad ns hs
+sized ad ns hs e =
+    let h = all-three (eqb (length ad) (length ns)) (eqb (length ad) (length hs)) _ (not-false _ (passed _ _ _ (sym e))) in
+    let second = eqb-true (length ad) (length ns) (h .0) in
+    let third = eqb-true (length ad) (length hs) (h .1) in
+    record {
+      size = e;
+      equal = record { second = second; third = third };
+      few = leb-true _ _ (h .2);
+      entries = λ W. rw (← e);
+      addresses = take-length ad;
+      lengths = take-all (length ad) ns (omega arith);
+      hops = take-all (length ad) hs (omega arith);
+    }
+
 -- rows are accepted exactly where they are those of a set
 pub rowsOfSet : (W : ℕ) (ad ns hs : List ℕ) → (rowsFault W ad ns hs ≡ fine) ↔ RowsOfSet W ad ns hs
 rowsOfSet W ad ns hs = (to, from)
@@ -110,10 +136,10 @@ rowsOfSet W ad ns hs = (to, from)
     to : rowsFault W ad ns hs ≡ fine → RowsOfSet W ad ns hs
     to e =
         let t = inTurn (rowsSizeFault ad ns hs) _ e in
-        let h = all-three (eqb (length ad) (length ns)) (eqb (length ad) (length hs)) _ (not-false _ (passed _ _ _ (t .0))) in
+        let size = sized ad ns hs (sym (t .0)) in
         record {
-          equal = record { second = eqb-true _ _ (h .0); third = eqb-true _ _ (h .1) };
-          few = leb-true _ _ (h .2);
+          equal = size .equal;
+          few = size .few;
           valid = allValid W 0 [] rs (t .1);
           distinct = allDistinct W 0 [] rs (t .1);
         }
@@ -126,6 +152,21 @@ rowsOfSet W ad ns hs = (to, from)
 -- the routes of an accepted list are a set
 pub acceptedSet : (W : ℕ) (ad ns hs : List ℕ) → rowsFault W ad ns hs ≡ fine → RouteSet W (routes ad ns hs)
 acceptedSet W ad ns hs e = let s = rowsOfSet W ad ns hs .0 e in routeSet W (routes ad ns hs) (s .valid) (s .distinct)
+
+-- what is counted of rows of a right size, and what their whole parts have
+module _ {ad ns hs : List ℕ} (s : Sized ad ns hs) where
+  pub sized-counted : (W : ℕ) {v : Verdict} {a : Answer} → v ≡ listFault W 0 [] (routes ad ns hs) → a ≡ unlessFault v (value (length ad)) →
+      a ≡ listCheck W ad ns hs
+  sized-counted W f g = g ∙ rw (f, s .entries W)
+
+  abbrev pub part : List ℕ → List ℕ
+  part row = take (length ad) row
+
+  pub parts-equal : EqualRows (part ad) (part ns) (part hs)
+  parts-equal = rw (s .addresses, s .lengths, s .hops) (s .equal)
+
+  pub parts-fault : (W : ℕ) {v : Verdict} → v ≡ listFault W 0 [] (routes (part ad) (part ns) (part hs)) → v ≡ listFault W 0 [] (routes ad ns hs)
+  parts-fault W e = rw (s .addresses, s .lengths, s .hops) at e
 
 -- what a call that tests the list first learns of it
 module _ (W : ℕ) (ad ns hs : List ℕ) where

@@ -41,9 +41,12 @@ listFault W i earlier (r ∷ rs) =
     then listFault W (i + 1) (r ∷ earlier) rs
 
 -- refusal 8: rows of unequal length, or too many entries
+abbrev pub sizesFault : ℕ → ℕ → ℕ → Verdict
+sizesFault addresses lengths hops =
+    faultIf (not (eqb addresses lengths && eqb addresses hops && leb addresses maxRoutes)) sizeRefusal 0
+
 abbrev pub rowsSizeFault : List ℕ → List ℕ → List ℕ → Verdict
-rowsSizeFault ad ns hs =
-    faultIf (not (eqb (length ad) (length ns) && eqb (length ad) (length hs) && leb (length ad) maxRoutes)) sizeRefusal 0
+rowsSizeFault ad ns hs = sizesFault (length ad) (length ns) (length hs)
 
 -- refusal 8 of a list, then 1 to 4
 abbrev pub rowsFault : ℕ → List ℕ → List ℕ → List ℕ → Verdict

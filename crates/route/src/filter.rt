@@ -9,6 +9,9 @@ ghost use lib.ListN.{length};
 ghost use Rattle.route.specs.Filter.{hashOf, wordIn, bitsOf, Noting};
 use crate::Length;
 
+// A word with all bits set. In a row of such words every prefix may have been noted.
+pub const FULL: u64 = 18446744073709551615;
+
 // A number for each prefix, of which its word and its bits are parts.
 fn hash(address: u32, n: Length) -> u64
     ensures { λ r. ⌜ r ≡ hashOf address (n .0) ⌝ }

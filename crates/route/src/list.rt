@@ -3,12 +3,17 @@
 // A list is tested whole before it answers: its size, then entry by entry the entry's own numbers
 // and whether an earlier entry has its prefix. A filter is asked first, so that earlier entries are
 // hardly ever compared. The longest match is found from the list's end.
+//
+// Both calls ask whether the list is short. So `long_check` has two callers and stays a function of its
+// own in the compiled code: its filters are in no frame of a short list. It is handed slices of its
+// own, so that those of a short list stay in registers.
 ghost use mathlib.Core.Path.{_≡_};
 ghost use Prim.Native.Nat.{_≤_, _<_};
 ghost use mathlib.Core.List.{[]};
 ghost use lib.ListN.{length};
 ghost use Rattle.route.specs.Rule.{improved, longest};
-ghost use Rattle.route.specs.Lists.{routes, samePrefix, listFault, listCheck, listLookup, EqualRows};
+ghost use Rattle.route.specs.Refusals.{value, unlessFault};
+ghost use Rattle.route.specs.Lists.{routes, samePrefix, listFault, sizesFault, listCheck, listLookup, EqualRows};
 ghost use Rattle.route.specs.Shown.{routeOf, verdictOf, counted, shown};
 ghost use Rattle.route.specs.Loops.{routeAt, matchOf};
 use crate::Check;
@@ -20,7 +25,11 @@ use crate::MAX_ROUTES;
 use crate::Prefix;
 use crate::Refusal;
 use crate::filter;
+use crate::filter::FULL;
 use crate::rule;
+
+// A list of no more entries is short: comparing them all takes less time than clearing a filter.
+const SHORT: usize = 8;
 
 // The longest match so far.
 enum Best {
@@ -34,34 +43,59 @@ pub fn check(addresses: &[u32], lengths: &[u32], hops: &[u32]) -> Counted
     ensures { λ r. ⌜ counted r ≡ listCheck 32 (now (addresses .entry)) (now (lengths .entry)) (now (hops .entry)) ⌝ }
 {
     let n = addresses.len();
-    if n != lengths.len() {
-        return Counted::Refused(Refusal::Size);
+    let sized = size_check(n, lengths.len(), hops.len());
+    if let Check::Fault(f) = sized {
+        return Counted::Refused(f);
     }
-    if n != hops.len() {
-        return Counted::Refused(Refusal::Size);
+    if n <= SHORT {
+        return count_of(n, short_check(addresses, lengths, hops));
     }
-    if MAX_ROUTES < n {
-        return Counted::Refused(Refusal::Size);
-    }
-    match rows_check(addresses, lengths, hops) {
-        Check::Fault(f) => Counted::Refused(f),
-        Check::Fine => Counted::Count(n),
-    }
+    count_of(n, long_check(&addresses[..n], &lengths[..n], &hops[..n]))
 }
 
 // The next hop of the longest prefix that matches q; refusals as of `check`.
 pub fn lookup(addresses: &[u32], lengths: &[u32], hops: &[u32], q: u32) -> Found
     ensures { λ r. ⌜ shown r ≡ listLookup 32 (now (addresses .entry)) (now (lengths .entry)) (now (hops .entry)) q ⌝ }
 {
-    match check(addresses, lengths, hops) {
-        Counted::Refused(f) => Found::Refused(f),
-        Counted::Count(_) => match longest_match(addresses, lengths, hops, q) {
+    let n = addresses.len();
+    let sized = size_check(n, lengths.len(), hops.len());
+    if let Check::Fault(f) = sized {
+        return Found::Refused(f);
+    }
+    let tested = if n <= SHORT {
+        short_check(addresses, lengths, hops)
+    } else {
+        long_check(&addresses[..n], &lengths[..n], &hops[..n])
+    };
+    match tested {
+        Check::Fault(f) => Found::Refused(f),
+        Check::Fine => match longest_match(addresses, lengths, hops, q) {
             Best::Nowhere => Found::Nothing,
             Best::At(p) => {
                 let hop = p.hop;
                 Found::Via(hop)
             }
         },
+    }
+}
+
+// Refusal 8 of three rows, by their lengths: unequal, or too many.
+fn size_check(addresses: usize, lengths: usize, hops: usize) -> Check
+    ensures { λ r. ⌜ verdictOf r ≡ sizesFault addresses lengths hops ⌝ }
+{
+    if !((addresses == lengths) & (addresses == hops) & (addresses <= MAX_ROUTES)) {
+        return Check::Fault(Refusal::Size);
+    }
+    Check::Fine
+}
+
+// So many entries, or what their test refuses.
+fn count_of(n: usize, tested: Check) -> Counted
+    ensures { λ r. ⌜ counted r ≡ unlessFault (verdictOf tested) (value n) ⌝ }
+{
+    match tested {
+        Check::Fault(f) => Counted::Refused(f),
+        Check::Fine => Counted::Count(n),
     }
 }
 
@@ -115,8 +149,18 @@ fn entries_check(addresses: &[u32], lengths: &[u32], hops: &[u32], filter: &mut 
     Check::Fine
 }
 
-// The same with a filter of the call's own. It is cleared at every call, so there are three sizes of it.
-fn rows_check(addresses: &[u32], lengths: &[u32], hops: &[u32]) -> Check
+// The same with a filter that says of every prefix that it may have been noted: all earlier entries
+// are compared, and no row is cleared.
+fn short_check(addresses: &[u32], lengths: &[u32], hops: &[u32]) -> Check
+    requires { ⌜ EqualRows (now addresses) (now lengths) (now hops) ⌝ }
+    ensures { λ r. ⌜ verdictOf r ≡ listFault 32 0 [] (routes (now (addresses .entry)) (now (lengths .entry)) (now (hops .entry))) ⌝ }
+{
+    let mut filter = [FULL; 1];
+    entries_check(addresses, lengths, hops, &mut filter)
+}
+
+// The same with a filter that is cleared at every call, so there are three sizes of it.
+fn long_check(addresses: &[u32], lengths: &[u32], hops: &[u32]) -> Check
     requires { ⌜ EqualRows (now addresses) (now lengths) (now hops) ⌝ }
     ensures { λ r. ⌜ verdictOf r ≡ listFault 32 0 [] (routes (now (addresses .entry)) (now (lengths .entry)) (now (hops .entry))) ⌝ }
 {
