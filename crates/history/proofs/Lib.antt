@@ -4,6 +4,7 @@ pub mod Steps
 -- From step to step: what is kept, what is left to print.
 pub mod Stages
 pub mod Left
+pub mod NextLine
 -- A part, and all parts.
 pub mod Filling
 pub mod Whole

@@ -1,7 +1,7 @@
--- One update: its plan is refused and the table stays, or it is applied whole, which an accepted plan always can be; and its line is
--- printed, for which there is room.
+-- One update: its plan is refused and the table stays, or it is applied whole, which an accepted plan always can be; and its line, which
+-- fits, is printed.
 use Prim.Native.Nat.{ℕ, _≤_}
-use mathlib.Core.Path.{_≡_, refl, ap, _∙_}
+use mathlib.Core.Path.{_≡_, refl, sym, ap, _∙_}
 use mathlib.Core.List.{List}
 use native.Mathlib.Omega.{arith}
 use borrow.Author.Tests.{le-ltb}
@@ -14,7 +14,7 @@ use Rattle.tcam.proofs.Whole.{AppliesWhole, set-applies, remove-applies}
 use Rattle.records.specs.Records.{Update, removal, setting}
 use Rattle.lines.specs.Lines.{refusedLine, maxLine, IsWritten}
 use Rattle.lines.proofs.Sizes.{update-fits}
-use Rattle.history.specs.Reports.{Rows, rows, slots, planRoom, planOf, after, acceptedText, updateText}
+use Rattle.history.specs.Reports.{Rows, rows, slots, planRoom, planOf, after, acceptedText, updateText, reportedText}
 use Rattle.history.specs.Steps.{sizeOf, IsPrinted, IsUpdated, IsReported}
 
 -- an accepted plan can be applied whole
@@ -47,30 +47,31 @@ module _ (u : Update) (t : Rows) where
           let a′ = rw same at a in
           (a′ .answers ∙ rw (w .accepted), λ i. rows ((a′ .addresses ∙ w .addresses) i) ((a′ .tags ∙ w .tags) i))
 
--- a line is printed where there is room for the longest one
-pub line-printed : {text buffer buffer′ : List ℕ} {a : Answer} {size : ℕ} → IsWritten text buffer a buffer′ → size ≡ sizeOf a →
-    length text ≤ maxLine → maxLine ≤ length buffer → IsPrinted text buffer size buffer′
-line-printed {text} {buffer} w s f l =
-    let e = le-ltb (length buffer) (length text) (omega arith) in
-    record { counts = s ∙ ap sizeOf (w .answers) ∙ rw e; prints = w .after ∙ rw e }
+-- a text that fits is printed where it is the line that was written
+pub line-printed : {text line buffer buffer′ : List ℕ} {a : Answer} {size : ℕ} → text ≡ line → IsWritten line buffer a buffer′ → size ≡ sizeOf a →
+    length text ≤ length buffer → IsPrinted text buffer size buffer′
+line-printed {text} {line} {buffer} same w s fits =
+    let e = le-ltb (length buffer) (length line) (rw same at fits) in
+    rw same (record { counts = s ∙ ap sizeOf (w .answers) ∙ rw e; prints = w .after ∙ rw e })
 
 pub accepted-fits : (nth : ℕ) (u : Update) (w used : ℕ) → length (acceptedText nth u w used) ≤ maxLine
 accepted-fits nth (setting r) w used = update-fits nth _ _ w used (omega arith)
 accepted-fits nth (removal a n) w used = update-fits nth _ _ w used (omega arith)
 
 -- the line of a refused update, and of one that was made
-module _ (nth : ℕ) {u : Update} {t t′ : Rows} {buffer : List ℕ} {size : ℕ} {buffer′ : List ℕ} where
-  pub reported-refused : {n q : ℕ} → IsUpdated u t (refused n q) t′ → IsPrinted (refusedLine nth n) buffer size buffer′ → IsReported nth u t buffer size t′ buffer′
-  reported-refused {n} {q} h l = record { table = h .table; line = rw (← (text (planOf t u planRoom) (h .answers))) l }
+module _ (nth : ℕ) {u : Update} {t t′ : Rows} {buffer buffer′ : List ℕ} {a : Answer} {size : ℕ} (fits : length (reportedText nth t u) ≤ length buffer) where
+  pub reported-refused : {n q : ℕ} → IsUpdated u t (refused n q) t′ → IsWritten (refusedLine nth n) buffer a buffer′ → size ≡ sizeOf a →
+      IsReported nth u t buffer size t′ buffer′
+  reported-refused {n} {q} h l s = record { table = h .table; line = line-printed (text (planOf t u planRoom) (h .answers)) l s fits }
     where
-      text : (p : Planned) → refused n q ≡ planAnswer p → refusedLine nth n ≡ updateText nth u p (after t p)
-      text (refuses m r) e = let same : n ≡ m = cc in rw same
+      text : (p : Planned) → refused n q ≡ planAnswer p → updateText nth u p (after t p) ≡ refusedLine nth n
+      text (refuses m r) e = let same : m ≡ n = cc in rw same
       text (writes ws) e = absurd (let z : _≡_ {A = ℕ} 0 1 = cc in omega arith)
 
-  pub reported-accepted : {w used : ℕ} → IsUpdated u t (value w) t′ → used ≡ usedIn (slots t′) → IsPrinted (acceptedText nth u w used) buffer size buffer′ →
-      IsReported nth u t buffer size t′ buffer′
-  reported-accepted {w} {used} h e l =
-      record { table = h .table; line = rw (← (text (planOf t u planRoom) (h .answers) (e ∙ ap (λ t. usedIn (slots t)) (h .table)))) l }
+  pub reported-accepted : {w used : ℕ} → IsUpdated u t (value w) t′ → used ≡ usedIn (slots t′) → IsWritten (acceptedText nth u w used) buffer a buffer′ →
+      size ≡ sizeOf a → IsReported nth u t buffer size t′ buffer′
+  reported-accepted {w} {used} h e l s =
+      record { table = h .table; line = line-printed (sym (text (planOf t u planRoom) (h .answers) (e ∙ ap (λ t. usedIn (slots t)) (h .table)))) l s fits }
     where
       text : (p : Planned) → value w ≡ planAnswer p → used ≡ usedIn (slots (after t p)) → acceptedText nth u w used ≡ updateText nth u p (after t p)
       text (refuses m r) v e = absurd (let z : _≡_ {A = ℕ} 0 1 = cc in omega arith)

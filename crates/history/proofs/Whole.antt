@@ -2,27 +2,29 @@
 -- buffer has room for a line.
 use Prim.Native.Nat.{ℕ, zero, suc, _-_, _≤_, _<_}
 use mathlib.Core.Path.{_≡_, refl, sym, ap, _∙_}
-use mathlib.Core.Bool.{Bool, true, false, cond, not, _||_, and-false}
+use mathlib.Core.Bool.{Bool, true, false, cond, _||_}
 use mathlib.Core.List.{List, [], _∷_, _++_, append-assoc, append-nil, List·Memᴰ·head, List·Memᴰ·tail}
 use native.Mathlib.Nat.{le-refl}
 use native.Mathlib.Omega.{arith}
 use lib.Dec.{ltb}
 use lib.ListN.{length, length-append, length-replicate, drop}
-use borrow.Author.Tests.{le-ltb, le-leb, eq-eqb}
-use Rattle.route.proofs.Tests.{byTest, clash}
-use Rattle.route.specs.Refusals.{Verdict, fine, fault}
+use mathlib.Core.Logic.{_↔_}
+use borrow.Author.Tests.{le-ltb, ltb-false, le-leb, eq-eqb}
+use Rattle.route.proofs.Tests.{byTest, clash, passed}
+use Rattle.route.specs.Refusals.{Verdict, fine, fault, roomRefusal}
 use Rattle.route.specs.RightHop.{_∈_}
 use Rattle.tcam.specs.Slots.{maxSlots}
 use Rattle.lines.specs.Lines.{maxLine}
 use Rattle.history.specs.Reports.{Rows, maxInput, reportSlots, emptyRows}
 use Rattle.history.specs.Stages.{startOf, isDone, isStageOf, Run, run, stepText, stepTo, left, stepsLeft}
-use Rattle.history.specs.Fills.{Printed, behindText, printed, part, fillFault, printedTo, fillBy, fillOf, IsFill}
-use Rattle.history.specs.Whole.{parts, started, WholeReport}
+use Rattle.history.specs.Fills.{Printed, behindText, printed, part, nextLine, roomFault, fillFault, printedTo, fillBy, fillOf, IsFill}
+use Rattle.history.specs.Whole.{answered, called, parts, started, behind, WholeReport}
 use Rattle.history.specs.Steps.{Ready}
 use Rattle.history.specs.declared.Stage.{Stage}
 use Rattle.history.specs.declared.Stage.the-variants.{TooLong, Header, Reading, Listing, Done}
-use Rattle.history.proofs.Stages.{step-size, step-ready, step-falls}
+use Rattle.history.proofs.Stages.{step-size, step-ready, step-falls, step-fits}
 use Rattle.history.proofs.Left.{step-left, start-left}
+use Rattle.history.proofs.NextLine.{line-fits, line-next, long-enough}
 
 -- what is left to print, and how many steps at the most
 abbrev leftOf : List ℕ → Run → List ℕ
@@ -72,7 +74,7 @@ module _ (bs : List ℕ) where
   printed-advances : (k room : ℕ) (s : Stage) (t : Rows) → Ready bs s t → Advances bs (run s t) (printed k bs room s t)
   printed-advances zero room s t r = stays r
   printed-advances (suc k) room s t r =
-      go (isDone s) (ltb room maxLine) refl
+      go (isDone s) (ltb room (length (stepText bs s t))) refl
       (printed-advances k (room - length (stepText bs s t)) (stepTo bs s t .stage) (stepTo bs s t .table) (step-ready bs s t r))
     where
       more : Printed
@@ -92,7 +94,7 @@ module _ (bs : List ℕ) where
       stepsOf bs (printed k bs room s t .to) < stepsOf bs (run s t)
   printed-falls zero room s t r d l n = absurd (omega arith)
   printed-falls (suc k) room s t r d l n =
-      let test : (isDone s || ltb room maxLine) ≡ false = rw (d, le-ltb room maxLine l) in
+      let test : (isDone s || ltb room (length (stepText bs s t))) ≡ false = rw (d, le-ltb room (length (stepText bs s t)) (omega (arith, step-fits bs s t))) in
       let h = printed-advances k (room - length (stepText bs s t)) (stepTo bs s t .stage) (stepTo bs s t .table) (step-ready bs s t r) in
       rw test (omega (arith, h .steps, step-steps bs s t r d))
 
@@ -100,12 +102,19 @@ module _ (bs : List ℕ) where
       stepsOf bs (part bs room s t .to) < stepsOf bs (run s t)
   part-falls room s t r d l = printed-falls (stepsOf bs (run s t)) room s t r d l (omega (arith, step-steps bs s t r d))
 
-  -- all parts
+  -- a call, refused or not, and all parts
+  called-advances : (room : ℕ) (from : Run) → Ready bs (from .stage) (from .table) → Advances bs from (called bs room from)
+  called-advances room from r = go (fillFault bs (from .stage) (from .table) room)
+    where
+      go : (v : Verdict) → Advances bs from (answered v (part bs room (from .stage) (from .table)) from)
+      go (fault n p) = stays r
+      go fine = part-advances room (from .stage) (from .table) r
+
   parts-advance : (rooms : List ℕ) (from : Run) → Ready bs (from .stage) (from .table) → Advances bs from (parts bs rooms from)
   parts-advance [] from r = stays r
   parts-advance (room ∷ rooms) from r =
-      let h = part-advances room (from .stage) (from .table) r in
-      advances-then h (parts-advance rooms (part bs room (from .stage) (from .table) .to) (h .ready))
+      let h = called-advances room from r in
+      advances-then h (parts-advance rooms (called bs room from .to) (h .ready))
 
   -- the report is done exactly where no step is left
   no-steps : (M : ℕ) (s : Stage) → stepsLeft (length bs) M s ≤ 0 → isDone s ≡ true
@@ -130,12 +139,31 @@ module _ (bs : List ℕ) where
       (λ d. omega (arith, part-advances room (from .stage) (from .table) r .steps, done-steps (length (from .table .addresses)) (from .stage) d))
       (λ d. omega (arith, part-falls room (from .stage) (from .table) r d l))
 
-  parts-end : (rooms : List ℕ) (from : Run) → Ready bs (from .stage) (from .table) → ((room : ℕ) → room ∈ rooms → maxLine ≤ room) →
+  -- with a stage that is ready and a table of a right size a buffer is refused for the next line alone
+  module _ (s : Stage) (t : Rows) (r : Ready bs s t) (i : 1 ≤ length (t .addresses)) (j : length (t .addresses) ≤ maxSlots) where
+    fault-of-room : (room : ℕ) → fillFault bs s t room ≡ roomFault bs s t room
+    fault-of-room room =
+        rw (eq-eqb (length (t .addresses)) (length (t .tags)) (r .equal), le-leb 1 (length (t .addresses)) i, le-leb (length (t .addresses)) maxSlots j, r .placed)
+
+    accepts : (room : ℕ) → (fillFault bs s t room ≡ fine) ↔ (length (nextLine bs s t) ≤ room)
+    accepts room = (
+      λ e. ltb-false room (length (nextLine bs s t)) (passed _ roomRefusal 0 (sym (fault-of-room room) ∙ e)),
+      λ l. fault-of-room room ∙ rw (le-ltb room (length (nextLine bs s t)) l),
+    )
+
+    called-whole : (room : ℕ) → maxLine ≤ room → called bs room (run s t) ≡ part bs room s t
+    called-whole room l = rw (accepts room .1 (omega (arith, line-fits bs (stepsOf bs (run s t)) s t)))
+
+  parts-end : (rooms : List ℕ) (from : Run) → Ready bs (from .stage) (from .table) → 1 ≤ length (from .table .addresses) →
+      length (from .table .addresses) ≤ maxSlots → ((room : ℕ) → room ∈ rooms → maxLine ≤ room) →
       stepsOf bs from ≤ length rooms → isDone (parts bs rooms from .to .stage) ≡ true
-  parts-end [] from r long l = no-steps (length (from .table .addresses)) (from .stage) l
-  parts-end (room ∷ rooms) from r long l =
-      parts-end rooms (part bs room (from .stage) (from .table) .to) (part-advances room (from .stage) (from .table) r .ready)
-      (λ x m. long x (List·Memᴰ·tail m)) (part-fewer room from r (long room (List·Memᴰ·head refl)) (length rooms) l)
+  parts-end [] from r i j long l = no-steps (length (from .table .addresses)) (from .stage) l
+  parts-end (room ∷ rooms) from r i j long l =
+      let most = long room (List·Memᴰ·head refl) in
+      let h = called-advances room from r in
+      parts-end rooms (called bs room from .to) (h .ready) (omega (arith, h .slots)) (omega (arith, h .slots))
+      (λ x m. long x (List·Memᴰ·tail m))
+      (rw (called-whole (from .stage) (from .table) r i j room most) (part-fewer room from r most (length rooms) l))
 
   -- nothing is left where the report is done
   done-left : (r : Run) → isDone (r .stage) ≡ true → leftOf bs r ≡ []
@@ -148,12 +176,6 @@ module _ (bs : List ℕ) where
       go (Listing slot) e = clash e refl
       go Done e = refl
 
-  -- a stage that is ready, with a table of a right size and room for a line, is not refused
-  not-refused : (s : Stage) (t : Rows) → Ready bs s t → 1 ≤ length (t .addresses) → length (t .addresses) ≤ maxSlots → (room : ℕ) → maxLine ≤ room →
-      fillFault bs s t room ≡ fine
-  not-refused s t r i j room l =
-      rw (eq-eqb (length (t .addresses)) (length (t .tags)) (r .equal), le-leb 1 (length (t .addresses)) i, le-leb (length (t .addresses)) maxSlots j, r .placed, le-ltb room maxLine l, and-false (not (isDone s)))
-
   pub start-ready : (t : Rows) → length (t .addresses) ≡ length (t .tags) → Ready bs (startOf (length bs)) t
   start-ready t e = record { equal = e; placed = go (ltb maxInput (length bs)) }
     where
@@ -164,13 +186,20 @@ module _ (bs : List ℕ) where
   pub wholeReport : (rooms : List ℕ) → WholeReport bs rooms
   wholeReport rooms =
       let all = parts bs rooms (started bs) in
+      let to = behind bs rooms in
       let r = start-ready (emptyRows reportSlots) refl in
       let h = parts-advance rooms (started bs) r in
-      let size : length (all .to .table .addresses) ≡ reportSlots = h .slots ∙ length-replicate {A = ℕ} reportSlots 0 in
+      let slots : length (emptyRows reportSlots .addresses) ≡ reportSlots = length-replicate {A = ℕ} reportSlots 0 in
+      let size : length (to .table .addresses) ≡ reportSlots = h .slots ∙ slots in
+      let more = line-next bs (stepsOf bs to) (to .stage) (to .table) (h .ready) in
+      let accepts = accepts (to .stage) (to .table) (h .ready) (omega arith) (omega arith) in
       record {
-        accepted = not-refused (all .to .stage) (all .to .table) (h .ready) (omega arith) (omega arith);
-        whole = λ d. sym (append-nil (all .text)) ∙ ap (λ l. all .text ++ l) (sym (done-left (all .to) d)) ∙ sym (h .text) ∙ start-left bs;
-        ends = λ long l. parts-end rooms (started bs) r long (rw (length-replicate {A = ℕ} reportSlots 0) l);
+        goesOn = (more .0, sym (start-left bs) ∙ h .text ∙ ap (λ l. all .text ++ l) (more .1));
+        accepted = accepts;
+        prints = λ room l d. long-enough bs (stepsOf bs to) room (to .stage) (to .table) (h .ready) (le-refl (stepsOf bs to)) d l;
+        lines = line-fits bs (stepsOf bs to) (to .stage) (to .table);
+        whole = λ d. sym (append-nil (all .text)) ∙ ap (λ l. all .text ++ l) (sym (done-left to d)) ∙ sym (h .text) ∙ start-left bs;
+        ends = λ long l. parts-end rooms (started bs) r (omega (arith, slots)) (omega (arith, slots)) long (rw slots l);
       }
 
 -- what a caller knows of a part that was not refused: it stands in the buffer, and the next call can go on from there

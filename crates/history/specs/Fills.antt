@@ -1,17 +1,17 @@
 -- A part of a report: as many steps as fit a buffer.
 --
--- A step is made while there is room for a line. So a part ends where the report is done or where less room is left. A buffer with no room
--- for a line is refused, so that every part that is answered advances the report.
+-- A step is made while its line fits what is left of the buffer. So a part ends where the report is done or where the next line does not
+-- fit. A buffer that is too short for the next line is refused, so that every part that is answered has a line, but for that of a report
+-- that is done.
 use Prim.Native.Nat.{ℕ, zero, suc, _-_}
 use mathlib.Core.Path.{_≡_}
-use mathlib.Core.Bool.{cond, not, _&&_, _||_}
-use mathlib.Core.List.{List, [], _++_}
+use mathlib.Core.Bool.{cond, not, _||_}
+use mathlib.Core.List.{List, [], _∷_, _++_}
 use lib.Dec.{ltb}
 use lib.ListN.{length, drop}
 use Rattle.route.specs.Refusals.{Verdict, fine, fault, faultIf, _then_, sizeRefusal, roomRefusal}
 use Rattle.route.specs.Shown.{number, place}
 use Rattle.tcam.specs.Slots.{sizeFault}
-use Rattle.lines.specs.Lines.{maxLine}
 use Rattle.history.specs.Reports.{Rows}
 use Rattle.history.specs.Stages.{isDone, isStageOf, Run, run, stepText, stepTo, stepsLeft}
 use Rattle.history.specs.declared.Stage.{Stage}
@@ -26,11 +26,11 @@ pub record Printed : Type 0 where
 abbrev pub behindText : List ℕ → Printed → Printed
 behindText text p = record { text = text ++ p .text; to = p .to }
 
--- at most k steps, while so many bytes have room for a line
+-- at most k steps, while the line of each fits so many bytes
 abbrev pub printed : ℕ → List ℕ → ℕ → Stage → Rows → Printed
 printed zero bs room s t = record { text = []; to = run s t }
 printed (suc k) bs room s t =
-    cond (isDone s || ltb room maxLine) (record { text = []; to = run s t })
+    cond (isDone s || ltb room (length (stepText bs s t))) (record { text = []; to = run s t })
     (behindText (stepText bs s t)
     (printed k bs (room - length (stepText bs s t)) (stepTo bs s t .stage) (stepTo bs s t .table)))
 
@@ -38,13 +38,28 @@ printed (suc k) bs room s t =
 abbrev pub part : List ℕ → ℕ → Stage → Rows → Printed
 part bs room s t = printed (stepsLeft (length bs) (length (t .addresses)) s) bs room s t
 
+-- the next line: that of the first of at most k steps that prints one
+abbrev pub orElse : List ℕ → List ℕ → List ℕ
+orElse [] other = other
+orElse (b ∷ line) other = b ∷ line
+
+abbrev pub lineWithin : ℕ → List ℕ → Stage → Rows → List ℕ
+lineWithin zero bs s t = []
+lineWithin (suc k) bs s t = orElse (stepText bs s t) (lineWithin k bs (stepTo bs s t .stage) (stepTo bs s t .table))
+
+abbrev pub nextLine : List ℕ → Stage → Rows → List ℕ
+nextLine bs s t = lineWithin (stepsLeft (length bs) (length (t .addresses)) s) bs s t
+
 -- refusal 8: rows of unequal length, no slot or too many; a stage that is none of these bytes
 abbrev pub stageFault : List ℕ → Stage → Rows → Verdict
 stageFault bs s t = sizeFault (t .addresses) (t .tags) then faultIf (not (isStageOf (length bs) s)) sizeRefusal 0
 
--- then 9: something is left to print, and the buffer has no room for a line
+-- then 9: the next line does not fit
+abbrev pub roomFault : List ℕ → Stage → Rows → ℕ → Verdict
+roomFault bs s t room = faultIf (ltb room (length (nextLine bs s t))) roomRefusal 0
+
 abbrev pub fillFault : List ℕ → Stage → Rows → ℕ → Verdict
-fillFault bs s t room = stageFault bs s t then faultIf (not (isDone s) && ltb room maxLine) roomRefusal 0
+fillFault bs s t room = stageFault bs s t then roomFault bs s t room
 
 -- what a call answers: the part's bytes and the stage behind it, or a refusal's number and place
 pub data FillAnswer : Type 0 where

@@ -1,13 +1,15 @@
 // A part of a report: as many lines as a lent buffer has room for.
 ghost use mathlib.Core.Path.{_≡_};
-ghost use Rattle.route.specs.Refusals.{fine};
+ghost use Prim.Native.Nat.{_≤_};
+ghost use lib.ListN.{length};
+ghost use Rattle.tcam.specs.Slots.{maxSlots};
 ghost use Rattle.history.specs.Reports.{rows};
 ghost use Rattle.history.specs.Stages.{isStageOf};
-ghost use Rattle.history.specs.Fills.{fillAnswer, fillWith, fillOf, IsFill};
+ghost use Rattle.history.specs.Fills.{fillAnswer, roomFault, fillWith, fillOf, IsFill};
 ghost use Rattle.history.specs.Steps.{Ready};
 use crate::Stage;
 use crate::step::step;
-use lines::MAX_LINE;
+use crate::trial::goes_on;
 use route::Check;
 use route::Refusal;
 use tcam::slots::size_check;
@@ -31,7 +33,7 @@ fn is_stage_of(size: usize, stage: Stage) -> bool
     }
 }
 
-// As many lines as there is room for.
+// As many lines as fit, or refusal 9 where the next one does not.
 fn fill_lines(
     bytes: &[u8],
     stage: Stage,
@@ -39,25 +41,30 @@ fn fill_lines(
     tags: &mut [u32],
     out: &mut [u8],
 ) -> Filled
-    requires { ⌜ Ready (now bytes) stage (rows (now addresses) (now tags)) ⌝ }
+    requires { ⌜ Ready (now bytes) stage (rows (now addresses) (now tags)) × (length (now addresses) ≤ maxSlots) ⌝ }
     ensures { λ r. ⌜
         IsFill
-        (fillWith fine (now (bytes .entry)) stage (rows (now (addresses .entry)) (now (tags .entry))) (now (out .entry)))
+        (fillWith
+        (roomFault (now (bytes .entry)) stage (rows (now (addresses .entry)) (now (tags .entry))) (length (now (out .entry))))
+        (now (bytes .entry)) stage (rows (now (addresses .entry)) (now (tags .entry))) (now (out .entry)))
         (fillAnswer r) (rows (now (addresses .exit)) (now (tags .exit))) (now (out .exit)) ⌝ }
 {
     let mut at = 0;
     let mut s = stage;
-    while !s.is_done() & (MAX_LINE <= out.len() - at) {
+    while goes_on(bytes, s, addresses, tags, out.len() - at) {
         let made = step(bytes, s, addresses, tags, &mut out[at..]);
         s = made.stage;
         at += made.size;
+    }
+    if (at == 0) & !s.is_done() {
+        return Filled::Refused(Refusal::Room);
     }
     Filled::Part(at, s)
 }
 
 // Prints the next part of the report into the buffer: the part's bytes, which stand at its front, and
 // the stage behind it. Refusal 8 for rows of unequal length or no table, or a stage of other bytes; then
-// 9 for a buffer with no room for a line, unless nothing is left to print.
+// 9 for a buffer that the next line does not fit.
 pub fn fill(
     bytes: &[u8],
     stage: Stage,
@@ -76,9 +83,6 @@ pub fn fill(
     }
     if !is_stage_of(bytes.len(), stage) {
         return Filled::Refused(Refusal::Size);
-    }
-    if !stage.is_done() & (out.len() < MAX_LINE) {
-        return Filled::Refused(Refusal::Room);
     }
     fill_lines(bytes, stage, addresses, tags, out)
 }

@@ -5,6 +5,7 @@
 // one after another are the report of specs/Reports, whatever the buffer's length (specs/Whole).
 pub mod fill;
 pub mod step;
+pub mod trial;
 pub mod update;
 
 ghost use mathlib.Core.Path.{_≡_};

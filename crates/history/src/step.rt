@@ -4,8 +4,8 @@ ghost use mathlib.Core.List.{[]};
 ghost use Prim.Native.Nat.{_≤_};
 ghost use lib.ListN.{length};
 ghost use Rattle.tcam.specs.Shown.{cellOf};
-ghost use Rattle.lines.specs.Lines.{maxLine};
 ghost use Rattle.history.specs.Reports.{rows, slotText};
+ghost use Rattle.history.specs.Stages.{stepText};
 ghost use Rattle.history.specs.Steps.{IsPrinted, IsStep, Ready};
 use crate::Stage;
 use crate::update::report_update;
@@ -32,7 +32,8 @@ fn record_step(
     tags: &mut [u32],
     out: &mut [u8],
 ) -> Stepped
-    requires { ⌜ (n ≤ at) × (at ≤ length (now bytes)) × (maxLine ≤ length (now out)) ⌝ }
+    requires { ⌜ (n ≤ at) × (at ≤ length (now bytes)) ⌝ }
+    requires { ⌜ length (stepText (now bytes) (Stage.Reading n at) (rows (now addresses) (now tags))) ≤ length (now out) ⌝ }
     ensures { λ r. ⌜
         IsStep (now (bytes .entry)) (Stage.Reading n at) (rows (now (addresses .entry)) (now (tags .entry))) (now (out .entry))
         r (rows (now (addresses .exit)) (now (tags .exit))) (now (out .exit)) ⌝ }
@@ -56,7 +57,7 @@ fn record_step(
 
 // A slot's line, nothing where it is free.
 fn slot_line(slot: Slot, c: Cell, out: &mut [u8]) -> usize
-    requires { ⌜ maxLine ≤ length (now out) ⌝ }
+    requires { ⌜ length (slotText (slot .0) (cellOf c)) ≤ length (now out) ⌝ }
     ensures { λ r. ⌜ IsPrinted (slotText (slot .0) (cellOf c)) (now (out .entry)) r (now (out .exit)) ⌝ }
 {
     if c.is_free() {
@@ -72,7 +73,8 @@ fn slot_line(slot: Slot, c: Cell, out: &mut [u8]) -> usize
 
 // A slot of the table, or the end behind the last.
 fn slot_step(slot: Slot, addresses: &[u32], tags: &[u32], out: &mut [u8]) -> Stepped
-    requires { ⌜ (length (now addresses) ≡ length (now tags)) × (maxLine ≤ length (now out)) ⌝ }
+    requires { ⌜ length (now addresses) ≡ length (now tags) ⌝ }
+    requires { ⌜ length (stepText [] (Stage.Listing slot) (rows (now addresses) (now tags))) ≤ length (now out) ⌝ }
     ensures { λ r. ⌜
         IsStep [] (Stage.Listing slot) (rows (now (addresses .entry)) (now (tags .entry))) (now (out .entry))
         r (rows (now (addresses .entry)) (now (tags .entry))) (now (out .exit)) ⌝ }
@@ -94,7 +96,7 @@ fn slot_step(slot: Slot, addresses: &[u32], tags: &[u32], out: &mut [u8]) -> Ste
     }
 }
 
-// One step.
+// One step, whose line fits.
 pub(crate) fn step(
     bytes: &[u8],
     stage: Stage,
@@ -102,7 +104,8 @@ pub(crate) fn step(
     tags: &mut [u32],
     out: &mut [u8],
 ) -> Stepped
-    requires { ⌜ Ready (now bytes) stage (rows (now addresses) (now tags)) × (maxLine ≤ length (now out)) ⌝ }
+    requires { ⌜ Ready (now bytes) stage (rows (now addresses) (now tags)) ⌝ }
+    requires { ⌜ length (stepText (now bytes) stage (rows (now addresses) (now tags))) ≤ length (now out) ⌝ }
     ensures { λ r. ⌜
         IsStep (now (bytes .entry)) stage (rows (now (addresses .entry)) (now (tags .entry))) (now (out .entry))
         r (rows (now (addresses .exit)) (now (tags .exit))) (now (out .exit)) ⌝ }

@@ -5,8 +5,8 @@ ghost use lib.ListN.{length};
 ghost use Rattle.route.specs.Shown.{counted};
 ghost use Rattle.records.specs.Shown.{updateOf};
 ghost use Rattle.tcam.specs.Plans.{IsPlanned};
-ghost use Rattle.lines.specs.Lines.{maxLine, IsWritten};
-ghost use Rattle.history.specs.Reports.{rows, planOf, acceptedText};
+ghost use Rattle.lines.specs.Lines.{IsWritten};
+ghost use Rattle.history.specs.Reports.{rows, planOf, acceptedText, reportedText};
 ghost use Rattle.history.specs.Steps.{sizeOf, IsUpdated, IsReported};
 use lines::line;
 use records::Record;
@@ -66,7 +66,7 @@ fn accepted_line(nth: usize, asked: Record, writes: usize, used: usize, out: &mu
     }
 }
 
-// Makes the update that a record asks for, and prints its line: the line's bytes.
+// Makes the update that a record asks for, and prints its line, which fits: the line's bytes.
 pub(crate) fn report_update(
     nth: usize,
     asked: Record,
@@ -74,7 +74,7 @@ pub(crate) fn report_update(
     tags: &mut [u32],
     out: &mut [u8],
 ) -> usize
-    requires { ⌜ maxLine ≤ length (now out) ⌝ }
+    requires { ⌜ length (reportedText nth (rows (now addresses) (now tags)) (updateOf asked)) ≤ length (now out) ⌝ }
     ensures { λ r. ⌜
         IsReported nth (updateOf asked) (rows (now (addresses .entry)) (now (tags .entry))) (now (out .entry))
         r (rows (now (addresses .exit)) (now (tags .exit))) (now (out .exit)) ⌝ }

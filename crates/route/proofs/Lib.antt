@@ -11,6 +11,7 @@ pub mod Lookups
 -- The code's answers, and its loops.
 pub mod Determined
 pub mod Searches
+pub mod Fills
 pub mod Notes
 pub mod Entries
 -- Steps of a walk by hand.

@@ -4,7 +4,7 @@ use Prim.Native.Nat.{_-_}
 use mathlib.Core.Path.{_≡_, sym, _∙_}
 use native.Mathlib.Omega.{arith}
 use lib.ListN.{length}
-use Rattle.ranges.proofs.Fills.{FilledTo, fill-start, fill-turn, fill-whole}
+use Rattle.route.proofs.Fills.{FilledTo, fill-start, fill-turn, fill-whole}
 use Rattle.dxr.specs.Dxr.{encoded}
 use Rattle.dxr.specs.Loops.{entriesFrom}
 use Rattle.dxr.proofs.Entries.{encoded-size}

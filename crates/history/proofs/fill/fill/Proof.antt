@@ -18,42 +18,23 @@ returns-2 c =
     rw (← e .before .before .size-check .ensures, e .enum-told .given .1, ← c .before .is-stage-of .ensures, not-true (c .before .is-stage-of .result) (c .if1 .taken))
     (record { answers = refl; table = refl; prints = refl })
 
-returns-3 : tie.Need-returns-3
-returns-3 c =
-    let t = c .before .before in
-    let e = t .before .before in
-    rw (
-      ← e .before .before .size-check .ensures,
-      e .enum-told .given .1,
-      ← t .before .is-stage-of .ensures,
-      not-false (t .before .is-stage-of .result) (t .if1 .left),
-      ← c .before .is-done .ensures,
-      c .if2 .taken,
-    )
-    (record { answers = refl; table = refl; prints = refl })
-
 fill-lines-requires : tie.Need-fill-lines-requires
 fill-lines-requires c κs =
-    let t = c .before .before .before .before .before in
+    let t = c .before .before .before in
     let e = t .before .before in
-    record {
-      equal = sized _ _ (sym (ap verdictOf (e .enum-told .given .1)) ∙ e .before .before .size-check .ensures) .equal;
-      placed = sym (t .before .is-stage-of .ensures) ∙ not-false (t .before .is-stage-of .result) (t .if1 .left);
-    }
+    let size = sized _ _ (sym (ap verdictOf (e .enum-told .given .1)) ∙ e .before .before .size-check .ensures) in
+    (record { equal = size .equal; placed = sym (t .before .is-stage-of .ensures) ∙ not-false (t .before .is-stage-of .result) (t .if1 .left) }, size .few)
 
-returns-4 : tie.Need-returns-4
-returns-4 c =
+returns-3 : tie.Need-returns-3
+returns-3 c =
     let f = c .before .before .before .before .before .before in
-    let d = f .before .before .before .before in
-    let t = d .before .before in
+    let t = f .before .before .before .before in
     let e = t .before .before in
     rw (
       ← e .before .before .size-check .ensures,
       e .enum-told .given .1,
       ← t .before .is-stage-of .ensures,
       not-false (t .before .is-stage-of .result) (t .if1 .left),
-      ← d .before .is-done .ensures,
-      d .if2 .left,
     )
     (f .fill-lines .ensures)
 
@@ -62,5 +43,4 @@ fill-spec =
     tie.close
     (tie.spec
     (λ c κs. search needs) (λ c. search needs) returns (λ c. search needs) (λ c κs. search needs) returns-2
-    (λ c κs. search needs) returns-3 fill-lines-requires (λ c. search needs) (λ c. search needs) (λ c. search needs)
-    returns-4)
+    fill-lines-requires (λ c. search needs) (λ c. search needs) (λ c. search needs) returns-3)

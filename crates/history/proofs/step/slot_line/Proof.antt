@@ -2,8 +2,6 @@
 use borrow.Author.Needs.{needs}
 use mathlib.Core.Path.{sym, _∙_}
 use Rattle.tcam.specs.Shown.{cellOf}
-use Rattle.lines.proofs.Sizes.{slot-fits}
-use Rattle.history.proofs.Updates.{line-printed}
 use Rattle.history.proofs.Steps.{slot-free, slot-used}
 use Rattle.history.proofs.step.slot_line.Statement.{statement}
 use Rattle.history.proofs.step.slot_line.Tie as tie
@@ -18,8 +16,8 @@ returns-2 c =
     let l = c .before .before .before in
     let h = l .before .before in
     let f = h .before .before in
-    slot-used _ _ (sym (f .before .is-free .ensures) ∙ f .if1 .left)
-    (line-printed (rw (h .before .length .ensures, h .hop .ensures) at (l .slot .ensures)) (c .size-of .ensures) (slot-fits _ _) (search needs))
+    slot-used _ _ (sym (f .before .is-free .ensures) ∙ f .if1 .left) (rw (h .before .length .ensures, h .hop .ensures) at (l .slot .ensures))
+    (c .size-of .ensures) (f .before .before .before .pre)
 
 pub slot-line-spec : {M : Type 1} → statement M
 slot-line-spec =

@@ -6,7 +6,8 @@ use native.Mathlib.Omega.{arith}
 use lib.ListN.{length}
 use Rattle.route.specs.Lists.{routes}
 use Rattle.ranges.specs.Loops.{keysOf}
-use Rattle.ranges.proofs.Fills.{FilledTo, fill-start, fill-turn, fill-whole, key-at, keys-length}
+use Rattle.route.proofs.Fills.{FilledTo, fill-start, fill-turn, fill-whole}
+use Rattle.ranges.proofs.Fills.{key-at, keys-length}
 use Rattle.ranges.proofs.build.pack.Statement.{statement}
 use Rattle.ranges.proofs.build.pack.Tie as tie
 

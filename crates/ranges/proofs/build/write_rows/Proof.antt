@@ -5,7 +5,8 @@ use mathlib.Core.Path.{refl, sym, _∙_, ap}
 use native.Mathlib.Omega.{arith}
 use Rattle.ranges.specs.Ranges.{Range, startsOf, hopsOf}
 use Rattle.ranges.specs.Words.{rangesIn}
-use Rattle.ranges.proofs.Fills.{FilledTo, fill-start, fill-turn, fill-end, part-at, parts-length}
+use Rattle.route.proofs.Fills.{FilledTo, fill-start, fill-turn, fill-end}
+use Rattle.ranges.proofs.Fills.{part-at, parts-length}
 use Rattle.ranges.proofs.build.write_rows.Statement.{statement}
 use Rattle.ranges.proofs.build.write_rows.Tie as tie
 
