@@ -1,6 +1,6 @@
 -- Texts put into a row one behind the other are one text put there; a text put at the row's front is what a call that writes it leaves.
 use Prim.Native.Nat.{ℕ, suc, _+_, _≤_, _<_}
-use mathlib.Core.Path.{_≡_, refl, sym, ap, _∙_}
+use mathlib.Core.Path.{_≡_, refl, sym, _∙_}
 use mathlib.Core.Logic.{_≢_}
 use mathlib.Core.List.{List, [], _∷_, _++_}
 use native.Mathlib.Nat.{zero-add, add-zero}
@@ -8,7 +8,7 @@ use native.Mathlib.Omega.{arith}
 use borrow.Author.Tests.{lt-ltb, le-ltb}
 use native.Mathlib.Numerals.{add-one}
 use lib.ListN.{length, length-append, length-set, set, drop, getD, drop-of-length-le}
-use lib.Seq.{sets, sets-eq, length-sets, set-comm, drop-cons}
+use lib.Seq.{sets, sets-eq, set-comm, drop-cons}
 use Rattle.route.specs.Refusals.{value, refused, roomRefusal}
 use Rattle.lines.specs.Lines.{IsPut, IsWritten}
 
@@ -31,9 +31,6 @@ put-then {xs} {ys} {row} {at = at} p q = record {
   ends = q .ends ∙ rw (p .ends, length-append) (omega arith);
   puts = q .puts ∙ rw (p .puts, p .ends) (sym (sets-append xs ys row at));
 }
-
-pub put-size : {text row row′ : List ℕ} {at next : ℕ} → IsPut text row at next row′ → length row′ ≡ length row
-put-size {text} {row} {at = at} p = ap length (p .puts) ∙ length-sets row at text
 
 -- what a call that writes a text of so many bytes leaves: the buffer is too short, or the text was put at its front
 module _ {text buffer : List ℕ} {size : ℕ} (counts : size ≡ length text) where

@@ -3,24 +3,8 @@ ghost use mathlib.Core.Path.{_≡_};
 ghost use mathlib.Core.List.{[], _∷_};
 ghost use Prim.Native.Nat.{_+_, _≤_, _<_};
 ghost use lib.ListN.{length};
-ghost use Rattle.route.specs.Shown.{counted};
 ghost use Rattle.lines.specs.Texts.{decimal};
-ghost use Rattle.lines.specs.Lines.{IsPut, IsWritten};
-use route::Counted;
-use route::Refusal;
-
-// Writes a number in decimal.
-pub fn write_decimal(n: u64, out: &mut [u8]) -> Counted
-    ensures { λ r. ⌜ IsWritten (decimal n) (now (out .entry)) (counted r) (now (out .exit)) ⌝ }
-{
-    let size = places(n);
-    if out.len() < size {
-        return Counted::Refused(Refusal::Room);
-    }
-    put_decimal(n, out, 0);
-    Counted::Count(size)
-}
-
+ghost use Rattle.lines.specs.Lines.{IsPut};
 // How many digits a number has.
 pub(crate) fn places(n: u64) -> usize
     ensures { λ r. ⌜ (r ≡ length (decimal n)) × (r ≤ 20) ⌝ }

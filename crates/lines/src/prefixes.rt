@@ -3,40 +3,14 @@ ghost use mathlib.Core.Path.{_≡_};
 ghost use Prim.Native.Nat.{_+_, _≤_};
 ghost use lib.ListN;
 ghost use lib.ListN.{length};
-ghost use Rattle.route.specs.Shown.{counted, routeOf};
+ghost use Rattle.route.specs.Shown.{routeOf};
 ghost use Rattle.lines.specs.Texts.{dottedQuad, prefixText, routeText};
-ghost use Rattle.lines.specs.Lines.{IsPut, IsWritten};
+ghost use Rattle.lines.specs.Lines.{IsPut};
 use crate::decimals::places;
 use crate::decimals::put_behind;
 use crate::decimals::put_decimal;
-use route::Counted;
 use route::Length;
 use route::Prefix;
-use route::Refusal;
-
-// Writes an address as a dotted quad.
-pub fn write_dotted_quad(address: u32, out: &mut [u8]) -> Counted
-    ensures { λ r. ⌜ IsWritten (dottedQuad address) (now (out .entry)) (counted r) (now (out .exit)) ⌝ }
-{
-    let size = quad_places(address);
-    if out.len() < size {
-        return Counted::Refused(Refusal::Room);
-    }
-    put_quad(address, out, 0);
-    Counted::Count(size)
-}
-
-// Writes a prefix: its address and its length.
-pub fn write_prefix(address: u32, length: Length, out: &mut [u8]) -> Counted
-    ensures { λ r. ⌜ IsWritten (prefixText address (length .0)) (now (out .entry)) (counted r) (now (out .exit)) ⌝ }
-{
-    let size = prefix_places(address, length);
-    if out.len() < size {
-        return Counted::Refused(Refusal::Room);
-    }
-    put_prefix(address, length, out, 0);
-    Counted::Count(size)
-}
 
 // How many characters a dotted quad has.
 fn quad_places(address: u32) -> usize
