@@ -15,7 +15,7 @@ use second::random::Random;
 pub fn one(data: &[u8]) -> Calls {
     taken();
     let mut draw = Random::of_bytes(data);
-    // each kind gets a share by what it finds in its time; a large list takes milliseconds
+    // each kind gets a share by what it finds in its time; calls on a large list take longest
     match draw.below(128) {
         0..=15 => lists::any(&mut draw),
         16..=31 => lists::agreeing(&mut draw),

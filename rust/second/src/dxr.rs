@@ -58,7 +58,7 @@ fn of_ranges(ranges: &[(u32, u32)]) -> Dxr {
             main.push(hop);
             continue;
         }
-        let short = entries.iter().all(|&(start, hop)| start % 256 == 0 && hop < 256);
+        let short = entries.iter().all(|&(start, hop)| start % 256 == 0 && hop <= 255);
         let (kind, part) = if short {
             (SHORT, short_part(&entries))
         } else {

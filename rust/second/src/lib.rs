@@ -1,4 +1,5 @@
-//! A plain model of docs/SPECIFICATION.md, written apart from the proved code and as simply as it can be said, to compare with.
+//! A plain model of the scope, the paper that says what is built, to compare with. It is written from the words of the scope, apart
+//! from the proved code and as simply as it can be said. For the points that the scope leaves open it goes by docs/DECISIONS.md.
 //!
 //! It answers numbers: a value, or the refusal's number and place. `both` asks the library and this model together; no other module
 //! knows the library.

@@ -3,10 +3,19 @@
 use crate::Fault;
 use std::collections::HashSet;
 
-/// The first and the last address of a prefix that is known to be valid.
+/// 2^(32-n), for a length n up to 32.
+fn span(length: u32) -> u64 {
+    1 << (32 - length)
+}
+
+/// Whether a valid prefix matches `q`: its address and `q` have equal quotients by 2^(32-n).
+pub fn matches(address: u32, length: u32, q: u32) -> bool {
+    u64::from(q) / span(length) == u64::from(address) / span(length)
+}
+
+/// The first and the last address that a valid prefix matches.
 pub fn bounds(address: u32, length: u32) -> (u32, u32) {
-    let size = 1u64 << (32 - length);
-    (address, (u64::from(address) + size - 1) as u32)
+    (address, (u64::from(address) + span(length) - 1) as u32)
 }
 
 /// Refusals 1, 2, 3 of one prefix and its hop.
@@ -14,11 +23,10 @@ pub fn entry_fault(place: usize, address: u32, length: u32, hop: u32) -> Option<
     if length > 32 {
         return Some((1, place));
     }
-    // the bits behind the prefix are 0
-    if (u64::from(address) << length) & 0xffff_ffff != 0 {
+    if !u64::from(address).is_multiple_of(span(length)) {
         return Some((2, place));
     }
-    if !(1..=0xffff).contains(&hop) {
+    if !(1..=65_535).contains(&hop) {
         return Some((3, place));
     }
     None
@@ -30,7 +38,7 @@ pub fn check(addresses: &[u32], lengths: &[u32], hops: &[u32]) -> Result<usize, 
     if lengths.len() != entries || hops.len() != entries || entries > 4096 {
         return Err((8, 0));
     }
-    let mut seen = HashSet::new();
+    let mut seen = HashSet::with_capacity(entries);
     for (place, ((&address, &length), &hop)) in addresses.iter().zip(lengths).zip(hops).enumerate() {
         if let Some(fault) = entry_fault(place, address, length, hop) {
             return Err(fault);
@@ -42,20 +50,19 @@ pub fn check(addresses: &[u32], lengths: &[u32], hops: &[u32]) -> Result<usize, 
     Ok(entries)
 }
 
-/// The hop of the longest prefix that has `q` among its addresses, 0 where none has, in a list that was accepted.
+/// The hop of the longest prefix that matches `q`, 0 where none does, in a list that was accepted.
 pub fn answer(addresses: &[u32], lengths: &[u32], hops: &[u32], q: u32) -> u32 {
     let mut best = None;
     for ((&address, &length), &hop) in addresses.iter().zip(lengths).zip(hops) {
-        let (first, last) = bounds(address, length);
-        if first <= q && q <= last && best.is_none_or(|(longest, _)| length > longest) {
+        if matches(address, length, q) && best.is_none_or(|(longest, _)| length > longest) {
             best = Some((length, hop));
         }
     }
     best.map_or(0, |(_, hop)| hop)
 }
 
-/// The answer for `q`, or the list's first refusal.
-pub fn lookup(addresses: &[u32], lengths: &[u32], hops: &[u32], q: u32) -> Result<u32, Fault> {
+/// The answer for each of some addresses, or the list's first refusal.
+pub fn lookups(addresses: &[u32], lengths: &[u32], hops: &[u32], keys: &[u32]) -> Result<Vec<u32>, Fault> {
     check(addresses, lengths, hops)?;
-    Ok(answer(addresses, lengths, hops, q))
+    Ok(keys.iter().map(|&q| answer(addresses, lengths, hops, q)).collect())
 }

@@ -63,19 +63,23 @@ fn hops_differ(ranges: &Ranges) -> Option<usize> {
 
 /// No hop is over 65,535.
 fn hops_in_limits(ranges: &Ranges) -> Option<usize> {
-    ranges.hops.iter().position(|&hop| hop > 0xffff)
+    ranges.hops.iter().position(|&hop| hop > 65_535)
 }
 
-/// The hop of the last range that starts at or below `q`, or the first refusal.
-pub fn lookup(ranges: &Ranges, q: u32) -> Result<u32, Fault> {
-    let (starts, hops) = (&ranges.starts, &ranges.hops);
-    if starts.len() != hops.len() || starts.len() > 8193 {
+/// The hop of the range that `q` lies in, in a table that keeps the rules: the last that starts at or below it.
+fn answer(ranges: &Ranges, q: u32) -> u32 {
+    let last = ranges.starts.iter().rposition(|&start| start <= q);
+    last.map_or(0, |i| ranges.hops[i])
+}
+
+/// The hop for each of some addresses, or the first refusal.
+pub fn lookups(ranges: &Ranges, keys: &[u32]) -> Result<Vec<u32>, Fault> {
+    if ranges.starts.len() != ranges.hops.len() || ranges.starts.len() > 8193 {
         return Err((8, 0));
     }
     let rules = [starts_at_0, starts_rise, hops_differ, hops_in_limits];
     if let Some(range) = rules.iter().filter_map(|rule| rule(ranges)).min() {
         return Err((7, range));
     }
-    let last = starts.iter().rposition(|&start| start <= q);
-    Ok(last.map_or(0, |i| hops[i]))
+    Ok(keys.iter().map(|&q| answer(ranges, q)).collect())
 }

@@ -3,7 +3,7 @@
 //! Each rule of the image names the first slot that breaks it, and the least of these is the image's fault. A plan is a path of
 //! slots: each is written with what the next one holds, and the last with the new entry or with nothing.
 
-use crate::list::{bounds, entry_fault};
+use crate::list::{entry_fault, matches};
 use crate::Fault;
 use std::collections::HashSet;
 
@@ -121,20 +121,22 @@ pub fn check(addresses: &[u32], tags: &[u32]) -> Result<usize, Fault> {
     Ok(entries(&well_formed(addresses, tags)?).count())
 }
 
-/// The hop of the first used slot that has `q` among its addresses, 0 where none has, or the first refusal.
-pub fn lookup(addresses: &[u32], tags: &[u32], q: u32) -> Result<u32, Fault> {
+/// The hop of the first used slot that matches `q`, 0 where none does.
+fn first_match(cells: &[Cell], q: u32) -> u32 {
+    let found = cells.iter().find_map(|cell| match *cell {
+        Cell::Entry { address, length, hop } => matches(address, length, q).then_some(hop),
+        _ => None,
+    });
+    found.unwrap_or(0)
+}
+
+/// The hop of the first match for each of some addresses, or the first refusal.
+pub fn lookups(addresses: &[u32], tags: &[u32], keys: &[u32]) -> Result<Vec<u32>, Fault> {
     let cells = cells(addresses, tags)?;
     if let Some(slot) = s1(&cells) {
         return Err((7, slot));
     }
-    let found = cells.iter().find_map(|cell| match *cell {
-        Cell::Entry { address, length, hop } => {
-            let (first, last) = bounds(address, length);
-            (first <= q && q <= last).then_some(hop)
-        }
-        _ => None,
-    });
-    Ok(found.unwrap_or(0))
+    Ok(keys.iter().map(|&q| first_match(&cells, q)).collect())
 }
 
 /// A write: slot, address, tag.

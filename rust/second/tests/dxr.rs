@@ -7,7 +7,7 @@ use second::both::dxr::{
     about_chunks, agree, build, built, library_lookup, lookup, lookups, pointer, LONG, MAIN, SHORT,
 };
 use second::both::list::{apart, list_of, one, prefix_at, routes, set_p, with_one_fault};
-use second::both::{about, slots_of};
+use second::both::slots_of;
 use second::dxr::{entries, Dxr, Entry};
 use second::ip;
 use second::list::answer;
@@ -492,27 +492,12 @@ fn random_lists_of_hundreds_and_their_dxr_tables() {
     seen.all_over(30);
 }
 
-/// On each of 12 lists both programs' DXR tables, and the library's slots and ranges, are asked at every boundary and beside it,
-/// for the answer of the second program's list. The library's list takes milliseconds: it is asked, and with it both programs in
-/// all four, about every 400th boundary and at the ends of its chunk, others on each list.
 #[test]
 fn random_lists_of_4096_and_their_dxr_tables() {
     let mut random = Random::new(33);
     let mut seen = Seen::default();
     for round in 0..12 {
-        let list = many(&mut random, round, 4096);
-        let (ranges, dxr, image) = (both::ranges::built(&list), built(&list), slots_of(&list));
-        seen.add(&dxr);
-        let boundaries = boundaries(&list);
-        let keys = about(&boundaries);
-        for (&q, found) in keys.iter().zip(lookups(&dxr, &keys)) {
-            let expected = Ok(answer(&list.addresses, &list.lengths, &list.hops, q));
-            assert_eq!(found, expected, "{q:#x}");
-            assert_eq!(both::ranges::library_lookup(&ranges, q), expected, "{q:#x}");
-            assert_eq!(both::library_lookup(&image, q), expected, "{q:#x}");
-        }
-        let sample: Vec<u32> = boundaries.iter().copied().skip(33 * round).step_by(400).collect();
-        agree(&list, &image, &ranges, &dxr, &about_chunks(&sample));
+        seen.add(&agreed(&many(&mut random, round, 4096)));
     }
     seen.all_over(30);
 }
@@ -573,7 +558,8 @@ fn a_dxr_table_does_what_its_rows_do() {
         assert!(again == Ok(table), "{list:?}");
     }
     let mut list = spread(4096);
-    same_table(&DxrTable::of(routes(&list)).unwrap(), &built(&list), &[]);
+    let keys = about_chunks(&boundaries(&list));
+    same_table(&DxrTable::of(routes(&list)).unwrap(), &built(&list), &keys);
     list.push(0, 0, 1);
     assert_eq!(DxrTable::of(routes(&list)), Err(Refusal::Size));
     let mut list = set_p();

@@ -1,16 +1,15 @@
 //! The list calls of the library and of the second program, compared.
 
-use hawkmortar::{list as proved, NextHop};
-use second::both::list::{check, edges, lookup, one, set_p, with_one_fault};
+use hawkmortar::{list as proved, NextHop, MAX_ROUTES};
+use second::both::list::{check, edges, lookup, lookups, one, set_p, with_one_fault};
 use second::ip;
 use second::random::{Random, Rows};
+use std::thread;
 
 /// Both programs test the list alike, and answer each key alike.
-fn same(rows: &Rows, keys: impl IntoIterator<Item = u32>) {
+fn same(rows: &Rows, keys: &[u32]) {
     let _ = check(rows);
-    for q in keys {
-        let _ = lookup(rows, q);
-    }
+    let _ = lookups(rows, keys);
 }
 
 #[test]
@@ -20,12 +19,12 @@ fn board_cases_a_to_e() {
     assert_eq!(lookup(&rows, ip([10, 20, 4, 10])), Ok(3));
     assert_eq!(lookup(&rows, ip([10, 20, 5, 0])), Ok(2));
     assert_eq!(lookup(&rows, ip([255, 255, 255, 255])), Ok(7));
-    same(&rows, edges(&rows, 0, 1));
+    same(&rows, &edges(&rows, 0, 1));
     rows.addresses.pop();
     rows.lengths.pop();
     rows.hops.pop();
     assert_eq!(lookup(&rows, ip([11, 0, 0, 0])), Ok(0));
-    same(&rows, edges(&rows, 0, 1));
+    same(&rows, &edges(&rows, 0, 1));
 }
 
 #[test]
@@ -45,6 +44,7 @@ fn limits_of_lengths_and_hops() {
 
 #[test]
 fn limits_of_the_list() {
+    assert_eq!(MAX_ROUTES, 4096);
     let mut rows = Rows::default();
     assert_eq!(check(&rows), Ok(0));
     assert_eq!(lookup(&rows, 7), Ok(0));
@@ -98,7 +98,7 @@ fn refusals_come_in_their_order() {
 #[test]
 fn no_match_is_no_hop() {
     let rows = one(ip([10, 0, 0, 0]), 8, 5);
-    same(&rows, edges(&rows, 0, 1));
+    same(&rows, &edges(&rows, 0, 1));
     let found = proved::lookup(&rows.addresses, &rows.lengths, &rows.hops, ip([11, 0, 0, 0]));
     assert_eq!(found, Ok(None));
     let found = proved::lookup(&rows.addresses, &rows.lengths, &rows.hops, ip([10, 9, 9, 9]));
@@ -125,7 +125,7 @@ fn random_small_lists() {
         }
         let mut keys = edges(&rows, 0, 1);
         keys.push(random.number() as u32);
-        same(&rows, keys);
+        same(&rows, &keys);
     }
     // the lists are of every kind
     for number in [1, 2, 3, 4, 8] {
@@ -134,20 +134,37 @@ fn random_small_lists() {
     assert!(accepted > 20_000, "{accepted}");
 }
 
-/// On each of 50 lists the edges of another fiftieth of the prefixes; then one fault somewhere.
+/// Every edge of every prefix on 50 lists; then 50 times one fault somewhere. Two threads have 25 lists each.
 #[test]
 fn random_lists_of_4096() {
-    let mut random = Random::new(2);
-    for round in 0..50 {
-        let mut rows = Rows::valid(&mut random, 4096, u32::MAX);
-        same(&rows, edges(&rows, round, 50));
-        rows.damage(&mut random);
-        same(&rows, [0]);
-    }
+    let lists = |mut random: Random| {
+        for _ in 0..25 {
+            let rows = Rows::valid(&mut random, 4096, u32::MAX);
+            assert_eq!(check(&rows), Ok(4096));
+            lookups(&rows, &edges(&rows, 0, 1));
+            for _ in 0..50 {
+                let mut faulty = rows.clone();
+                faulty.damage(&mut random);
+                same(&faulty, &[0]);
+            }
+        }
+    };
+    thread::scope(|scope| {
+        scope.spawn(|| lists(Random::new(2)));
+        lists(Random::new(5));
+    });
 }
 
+/// Every edge of every prefix on lists of which many prefixes lie inside each other.
 #[test]
 fn every_edge_of_a_list_of_4096() {
-    let rows = Rows::valid(&mut Random::new(3), 4096, 0xf0f0_f0f0);
-    same(&rows, edges(&rows, 0, 1));
+    let mut random = Random::new(3);
+    for rows in [
+        Rows::valid(&mut random, 4096, 0xf0f0_f0f0),
+        Rows::near(&mut random, 4096, 65_535),
+        Rows::routed(&mut random, 4096, 300),
+    ] {
+        assert_eq!(check(&rows), Ok(4096));
+        lookups(&rows, &edges(&rows, 0, 1));
+    }
 }

@@ -94,17 +94,13 @@ fn limits_of_a_list_in_one_slice() {
     }
 }
 
-/// Lists of every size, asked for their last entry, and those of up to 600 entries also for the entry that would be next, and with
-/// a fault in the last.
+/// Lists of every size, asked for their last entry and for the entry that would be next, and with a fault in the last.
 #[test]
 fn a_list_of_every_size() {
     let whole = entries(&apart(4097));
     for size in 1..=4096 {
         let (last, next) = (whole[size - 1], whole[size]);
         assert_eq!(library_lookup(&whole[..size], last.address), Ok(last.hop));
-        if size > 600 {
-            continue;
-        }
         assert_eq!(library_lookup(&whole[..size], next.address), Ok(0));
         assert_eq!(library_check(&whole[..size]), Ok(size));
         let mut rows = apart(size);
@@ -133,7 +129,7 @@ fn numbers_of_one_entry() {
 /// Each bit of each number turned, in entries of lists on both sides of a size of scratch.
 #[test]
 fn every_bit_of_an_entry() {
-    for mut rows in [1, 5, 64, 65, 256, 257, 1024, 1025].map(apart) {
+    for mut rows in [1, 5, 64, 65, 256, 257, 1024, 1025, 4096].map(apart) {
         let last = rows.addresses.len() - 1;
         for place in [0, last / 2, last] {
             for bit in 0..96 {
@@ -346,7 +342,7 @@ fn a_list_in_memory_that_cannot_be_written() {
 #[test]
 fn lists_lent_to_several_threads() {
     let mut random = Random::new(40);
-    for (size, rounds) in [(64, 2000), (256, 100), (1024, 20), (4096, 4)] {
+    for (size, rounds) in [(64, 2000), (256, 1000), (1024, 500), (4096, 200)] {
         let lists: Vec<Rows> = (0..4).map(|_| Rows::valid(&mut random, size, u32::MAX)).collect();
         let shared = &entries(&lists[0]);
         let keys = &[lists[0].addresses[size - 1], lists[1].addresses[0]];
@@ -374,6 +370,19 @@ fn answers(rows: &Rows, keys: &[u32]) -> Vec<u32> {
     keys.iter()
         .map(|&q| answer(&rows.addresses, &rows.lengths, &rows.hops, q))
         .collect()
+}
+
+/// In a list of 4,096 a prefix repeated at each place, for an entry at several distances before it.
+#[test]
+fn a_repeat_at_each_place_of_4096() {
+    let good = Rows::valid(&mut Random::new(45), 4096, u32::MAX);
+    for place in 1..4096usize {
+        for earlier in [0, place / 2, place.saturating_sub(64), place - 1] {
+            let mut rows = good.clone();
+            (rows.addresses[place], rows.lengths[place]) = (good.addresses[earlier], good.lengths[earlier]);
+            assert_eq!(check(&rows), Err((4, place)));
+        }
+    }
 }
 
 #[test]
@@ -419,7 +428,7 @@ fn many(random: &mut Random, round: usize, entries: usize) -> Rows {
 #[test]
 fn random_lists_about_each_size_of_scratch() {
     let mut random = Random::new(42);
-    for (sizes, rounds) in [([63, 64, 65], 40), ([255, 256, 257], 4), ([1023, 1024, 1025], 1)] {
+    for (sizes, rounds) in [([63, 64, 65], 40), ([255, 256, 257], 40), ([1023, 1024, 1025], 4)] {
         for round in 0..rounds {
             for entries in sizes {
                 let rows = many(&mut random, round, entries);
@@ -436,12 +445,7 @@ fn random_damaged_lists_about_each_size_of_scratch() {
     let mut random = Random::new(43);
     let (mut accepted, mut refused) = (0, [0; 9]);
     for round in 0..3000 {
-        let entries = match random.below(64) {
-            0 => random.pick(&[4095, 4096]),
-            1 => random.pick(&[1023, 1024, 1025]),
-            2..=8 => random.pick(&[255, 256, 257]),
-            _ => random.pick(&[62, 63, 64, 65]),
-        };
+        let entries = random.pick(&SIZES[2..]);
         let mut rows = many(&mut random, round, entries);
         for _ in 0..random.below(4) {
             damage(&mut rows, &mut random);
@@ -459,13 +463,13 @@ fn random_damaged_lists_about_each_size_of_scratch() {
     assert!(accepted > 500, "{accepted}");
 }
 
-/// On each list the edges of another 64th of the prefixes; then one fault somewhere.
+/// Every edge of every prefix; then one fault somewhere.
 #[test]
 fn random_lists_of_4096_in_one_slice() {
     let mut random = Random::new(44);
     for round in 0..4 {
         let mut rows = many(&mut random, round, 4096 - round % 2);
-        lookups(&rows, &edges(&rows, round, 64));
+        lookups(&rows, &edges(&rows, 0, 1));
         damage(&mut rows, &mut random);
         let _ = check(&rows);
         lookups(&rows, &[0]);
@@ -473,7 +477,7 @@ fn random_lists_of_4096_in_one_slice() {
 }
 
 /// Each entry alone decides the answer at its last address: with a shorter length its address would be refused, with a longer one
-/// it would not match. The calls over rows are asked at every 16th entry.
+/// it would not match.
 #[test]
 fn every_entry_of_4096_in_one_slice() {
     let mut rows = Rows::default();
@@ -482,14 +486,9 @@ fn every_entry_of_4096_in_one_slice() {
         rows.push(block << 20 | 1 << (32 - length), length, 1 + 15 * i);
     }
     assert_eq!(check(&rows), Ok(4096));
-    let list = entries(&rows);
-    for i in 0..4096 {
-        let (_, last) = bounds(rows.addresses[i], rows.lengths[i]);
-        let found = if i % 16 == 0 {
-            lookup(&rows, last)
-        } else {
-            library_lookup(&list, last)
-        };
+    let prefixes = rows.addresses.iter().zip(&rows.lengths);
+    let keys: Vec<u32> = prefixes.map(|(&address, &length)| bounds(address, length).1).collect();
+    for (i, found) in lookups(&rows, &keys).into_iter().enumerate() {
         assert_eq!(found, Ok(rows.hops[i]), "entry {i}");
     }
 }

@@ -6,7 +6,7 @@ use second::both;
 use second::both::list::{apart, list_of, one, prefix_at, routes, set_p, with_one_fault};
 use second::both::ranges::{build, built, damage, lookup, lookups};
 use second::both::{about, slots_of};
-use second::list::{answer, bounds};
+use second::list::bounds;
 use second::random::{Random, Rows};
 use second::ranges::{boundaries, Ranges};
 use second::slots::Image;
@@ -21,7 +21,7 @@ fn ranges_of(ranges: &[(u32, u32)]) -> Ranges {
 
 /// Both programs answer each key alike in the list, its slots and its ranges.
 fn agree(list: &Rows, image: &Image, ranges: &Ranges, keys: &[u32]) {
-    let answers: Vec<_> = keys.iter().map(|&q| both::list::lookup(list, q)).collect();
+    let answers = both::list::lookups(list, keys);
     assert_eq!(both::lookups(image, keys), answers, "slots of {list:?}");
     assert_eq!(lookups(ranges, keys), answers, "ranges of {list:?}");
 }
@@ -357,23 +357,11 @@ fn many(random: &mut Random, round: usize, entries: usize) -> Rows {
     }
 }
 
-/// On each of 12 lists the library's slots and ranges are asked at every boundary and beside it, for the answer of the second
-/// program's list. The library's list takes milliseconds: it is asked, and with it both programs in all three, about every
-/// 300th boundary, others on each list.
 #[test]
 fn random_lists_of_4096_and_their_ranges() {
     let mut random = Random::new(23);
     for round in 0..12 {
-        let list = many(&mut random, round, 4096);
-        let (ranges, image) = (built(&list), slots_of(&list));
-        let boundaries = boundaries(&list);
-        for q in about(&boundaries) {
-            let expected = Ok(answer(&list.addresses, &list.lengths, &list.hops, q));
-            assert_eq!(both::ranges::library_lookup(&ranges, q), expected, "{q}");
-            assert_eq!(both::library_lookup(&image, q), expected, "{q}");
-        }
-        let sample: Vec<u32> = boundaries.iter().copied().skip(25 * round).step_by(300).collect();
-        agree(&list, &image, &ranges, &about(&sample));
+        agreed(&many(&mut random, round, 4096));
     }
 }
 
@@ -401,8 +389,7 @@ fn good_tables() -> Vec<Ranges> {
         full_table(),
     ];
     for table in &tables {
-        let keys = about(&table.starts[..table.starts.len().min(64)]);
-        assert!(lookups(table, &keys).iter().all(|found| found.is_ok()));
+        assert!(lookups(table, &about(&table.starts)).iter().all(|found| found.is_ok()));
     }
     tables
 }
@@ -630,10 +617,13 @@ fn a_range_table_does_what_its_rows_do() {
     assert_eq!(RangeTable::of(routes(&list)), Err(Refusal::Twice(5)));
 }
 
-/// A table has these rows; its ranges follow each other over all addresses, and have the answers of lookups.
+/// A table has these rows; its ranges follow each other over all addresses, forward and backward, and have the answers of lookups.
 fn same_table(table: &RangeTable, ranges: &Ranges) {
     assert_eq!((table.starts(), table.hops()), (&ranges.starts[..], &ranges.hops[..]));
     assert_eq!(table.iter().len(), ranges.starts.len());
+    let mut backward: Vec<_> = table.iter().rev().collect();
+    backward.reverse();
+    assert!(table.iter().eq(backward));
     let mut next = Some(0);
     for (range, (&start, &hop)) in table.iter().zip(ranges.starts.iter().zip(&ranges.hops)) {
         let last = u32::from(range.last);

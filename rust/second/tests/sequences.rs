@@ -3,6 +3,7 @@
 use second::both::sequence::{supply, Run, Seen};
 use second::random::Random;
 use std::ops::{Range, RangeInclusive};
+use std::thread;
 
 /// Each of these refusals, and sets and removals of each of these numbers of writes, came at least so often.
 fn frequent(
@@ -56,18 +57,24 @@ fn sequences_on_up_to_64_slots() {
     frequent(&seen, 20, &[], 1..=17, 1..=18);
 }
 
-/// Sequences of 5,000 calls on 4,096 slots. The entries at the start are fed to the book alone. One call in `odd` is against the
-/// filling or emptying, which turn at `least` entries and at a full table.
+/// Sequences on 4,096 slots, each in a thread of its own: sets in an empty table up to so many entries, then 5,000 calls. One of
+/// these in `odd` is against the filling or emptying, which turn at `least` entries and at a full table.
 fn large_tables(seeds: Range<u64>, entries: usize, least: usize, odd: u64) -> Seen {
-    let mut seen = Seen::default();
-    for seed in seeds {
+    let sequence = |seed| {
+        let mut seen = Seen::default();
         let mut run = start(seed, 4096, odd, &mut seen);
         run.prefill(entries);
         run.filling = entries < 4096;
         run.least = least;
         run.calls(5000);
-    }
-    seen
+        seen
+    };
+    let mut all = Seen::default();
+    thread::scope(|scope| {
+        let threads: Vec<_> = seeds.map(|seed| scope.spawn(move || sequence(seed))).collect();
+        threads.into_iter().for_each(|thread| all += thread.join().unwrap());
+    });
+    all
 }
 
 #[test]

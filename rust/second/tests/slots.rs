@@ -1,6 +1,6 @@
 //! Single slot calls of the library and of the second program, compared: the board, limits, damaged images and plans, room.
 
-use hawkmortar::{NextHop, Prefix, Refusal, Table};
+use hawkmortar::{NextHop, Prefix, Refusal, Table, MAX_SLOTS};
 use second::book::Book;
 use second::both;
 use second::both::{apply, check, edges, lookup, lookups, plan, remove, set, Update};
@@ -112,6 +112,7 @@ fn board_case_g() {
 
 #[test]
 fn limits_of_slots() {
+    assert_eq!(MAX_SLOTS, 4096);
     for slots in [0, 4097, 10_000] {
         let mut image = Image::empty(slots);
         refused(&image, (8, 0));
@@ -375,6 +376,32 @@ fn s5_broken_at_each_slot() {
     let mut image = Image::empty(4);
     (image.tags[2], image.tags[3]) = (7, 7);
     refused(&image, (7, 3));
+}
+
+/// In a table of 4,096 slots each rule broken at each slot, S5 for a slot at several distances before it.
+#[test]
+fn rules_broken_at_each_slot_of_4096() {
+    let (empty, long, short) = (Image::empty(4096), table(4096, [24], 4096), table(4096, [15], 4096));
+    let broken = |good: &Image, slot: usize, (address, tag): (u32, u32)| {
+        let mut image = good.clone();
+        (image.addresses[slot], image.tags[slot]) = (address, tag);
+        assert_eq!(check(&image), Err((7, slot)));
+    };
+    for slot in 0..4096 {
+        let bad = bad_cells()[slot % 9];
+        broken(&empty, slot, bad);
+        broken(&long, slot, bad);
+        broken(&short, slot, bad);
+    }
+    for slot in 1..4096 {
+        // S2, S3 and S4
+        broken(&long, slot, (prefix(25, 1), 25 << 16 | 1));
+        broken(&empty, slot, (prefix(16, 1), 16 << 16 | 1));
+        broken(&short, slot, (0, 0));
+        for earlier in [0, slot / 2, slot.saturating_sub(64), slot - 1] {
+            broken(&long, slot, (long.addresses[earlier], 24 << 16 | 9));
+        }
+    }
 }
 
 #[test]
@@ -651,8 +678,12 @@ fn a_plan_for_more_slots_is_refused() {
     same_table(&table, &image);
 }
 
-/// A plan's writes are its cells.
+/// A plan's writes are its cells, forward and backward.
 fn shown_by(plan: &hawkmortar::Plan, cells: &[u32]) {
+    assert_eq!(plan.writes().len(), cells.len() / 3);
+    let mut backward: Vec<_> = plan.writes().rev().collect();
+    backward.reverse();
+    assert!(plan.writes().eq(backward));
     for (write, cell) in plan.writes().zip(cells.chunks_exact(3)) {
         assert_eq!([write.slot() as u32, write.address(), write.tag()], *cell);
         match write.entry() {
@@ -666,7 +697,7 @@ fn shown_by(plan: &hawkmortar::Plan, cells: &[u32]) {
     }
 }
 
-/// A table has an image's rows, and shows and looks up its entries.
+/// A table has an image's rows, and shows and looks up its entries, forward and backward.
 fn same_table(table: &Table, image: &Image) {
     assert_eq!(
         (table.addresses(), table.tags()),
@@ -676,10 +707,15 @@ fn same_table(table: &Table, image: &Image) {
     assert_eq!((table.len(), table.slots()), (used.len(), image.tags.len()));
     assert_eq!(table.is_empty(), used.is_empty());
     assert!(table.iter().map(|entry| entry.slot).eq(used.iter().copied()));
+    let mut backward: Vec<_> = table.iter().rev().collect();
+    backward.reverse();
+    assert!(table.iter().eq(backward));
     for entry in table.iter() {
-        let (address, length) = (u32::from(entry.prefix.address()), entry.prefix.length());
-        assert_eq!(address, image.addresses[entry.slot]);
-        assert_eq!(length << 16 | u32::from(entry.hop.get()), image.tags[entry.slot]);
+        let (slot, length, hop) = (entry.slot, entry.prefix.length(), u32::from(entry.hop.get()));
+        let shown = format!("{slot} {}/{length} {hop}", entry.prefix.address());
+        assert_eq!(entry.to_string(), shown);
+        let address = u32::from(entry.prefix.address());
+        assert_eq!((address, length << 16 | hop), (image.addresses[slot], image.tags[slot]));
         let q = edges(address, length)[1];
         let found = table.lookup(q).map_or(0, |hop| hop.get().into());
         assert_eq!(lookup(image, q), Ok(found));

@@ -7,37 +7,56 @@ use second::random::Rows;
 use std::hint::black_box;
 
 pub fn all(measure: &mut dyn Measure) {
-    for (entries, calls) in [(16, 20_000), (256, 200), (4096, 1)] {
-        check(measure, entries, calls);
-        lookup(measure, entries, calls);
+    for (entries, calls) in [(1, 50_000), (8, 20_000), (16, 20_000), (256, 200), (4096, 1)] {
+        let asked = match entries {
+            16 => Some(0.77),
+            256 => Some(0.07),
+            4096 => Some(0.01),
+            _ => None,
+        };
+        let operation = Operation::new("list check", format!("{entries} entries"), calls);
+        check(measure, Operation { asked, ..operation }, &list_of(entries));
+        if entries >= 16 {
+            lookup(measure, entries, calls);
+        }
+    }
+    let operation = Operation::new("  in one word of the filter", "4096 entries", 1).asked(1.10);
+    check(measure, operation, &in_one_word(4096));
+}
+
+/// Entries that have one word of the library's filter, so that each is compared with all earlier ones.
+fn in_one_word(entries: usize) -> Rows {
+    let is_there = |address: &u32| {
+        let hash = u64::from(*address) * 2_654_435_769 + 32 * 1_540_483_477;
+        (hash >> 20) % 4096 == 7
+    };
+    Rows {
+        addresses: (0..).filter(is_there).take(entries).collect(),
+        lengths: vec![32; entries],
+        hops: vec![1; entries],
     }
 }
 
 /// Plain Rust compares each entry with the earlier ones one by one.
-fn check(measure: &mut dyn Measure, entries: u32, calls: u32) {
+fn check(measure: &mut dyn Measure, operation: Operation, rows: &Rows) {
     let Rows {
         addresses,
         lengths,
         hops,
-    } = list_of(entries);
+    } = rows;
     assert_eq!(
-        hawkmortar::list::check(&addresses, &lengths, &hops),
-        plain::check(&addresses, &lengths, &hops).map_err(|_| unreachable!("the list is good")),
+        hawkmortar::list::check(addresses, lengths, hops),
+        plain::check(addresses, lengths, hops).map_err(|_| unreachable!("the list is good")),
     );
-    let operation = Operation::new("list check", format!("{entries} entries"), calls);
-    let operation = match entries {
-        4096 => operation.asked(0.5),
-        _ => operation,
-    };
     measure.compare(
         operation,
         [
             &mut || {
-                let rows = (black_box(&addresses), black_box(&lengths), black_box(&hops));
+                let rows = (black_box(addresses), black_box(lengths), black_box(hops));
                 let _ = black_box(hawkmortar::list::check(rows.0, rows.1, rows.2));
             },
             &mut || {
-                let rows = (black_box(&addresses), black_box(&lengths), black_box(&hops));
+                let rows = (black_box(addresses), black_box(lengths), black_box(hops));
                 let _ = black_box(plain::check(rows.0, rows.1, rows.2));
             },
         ],

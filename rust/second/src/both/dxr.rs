@@ -96,7 +96,7 @@ pub fn lookup(dxr: &Dxr, q: u32) -> Result<u32, Fault> {
 
 /// Both programs answer each key alike in the list, its slots, its ranges and its DXR table.
 pub fn agree(list: &Rows, image: &Image, ranges: &Ranges, dxr: &Dxr, keys: &[u32]) {
-    let answers: Vec<_> = keys.iter().map(|&q| super::list::lookup(list, q)).collect();
+    let answers = super::list::lookups(list, keys);
     assert_eq!(super::lookups(image, keys), answers, "slots of {list:?}");
     assert_eq!(super::ranges::lookups(ranges, keys), answers, "ranges of {list:?}");
     assert_eq!(lookups(dxr, keys), answers, "DXR table of {list:?}");

@@ -1,7 +1,7 @@
 //! The list calls, asked of both programs, and lists to ask for.
 
 use super::calls::{counted, Call};
-use super::{fault, numbers};
+use super::{alike, fault, numbers};
 use crate::list as plain;
 use crate::random::Rows;
 use crate::{ip, Fault};
@@ -21,18 +21,25 @@ pub fn check(rows: &Rows) -> Result<usize, Fault> {
     found
 }
 
-/// What both programs answer for the address `q`.
-pub fn lookup(rows: &Rows, q: u32) -> Result<u32, Fault> {
+/// What the library answers for the address `q`.
+fn library_lookup(rows: &Rows, q: u32) -> Result<u32, Fault> {
+    let found = proved::lookup(&rows.addresses, &rows.lengths, &rows.hops, q);
+    counted(Call::ListLookup, numbers(found))
+}
+
+/// What both programs answer for each of some addresses.
+pub fn lookups(rows: &Rows, keys: &[u32]) -> Vec<Result<u32, Fault>> {
     let lent = rows.clone();
-    let found = proved::lookup(&lent.addresses, &lent.lengths, &lent.hops, q);
-    let found = counted(Call::ListLookup, numbers(found));
-    assert_eq!(
-        found,
-        plain::lookup(&rows.addresses, &rows.lengths, &rows.hops, q),
-        "{q} in {rows:?}"
-    );
+    let found: Vec<_> = keys.iter().map(|&q| library_lookup(&lent, q)).collect();
+    let expected = plain::lookups(&rows.addresses, &rows.lengths, &rows.hops, keys);
+    alike(keys, &found, expected, rows);
     assert!(lent == *rows, "a lookup changed {rows:?}");
     found
+}
+
+/// What both programs answer for the address `q`.
+pub fn lookup(rows: &Rows, q: u32) -> Result<u32, Fault> {
+    lookups(rows, &[q])[0]
 }
 
 /// A list of entries given as address, length and hop.

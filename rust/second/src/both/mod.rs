@@ -20,6 +20,7 @@ use crate::Fault;
 use calls::{counted, Call};
 use hawkmortar::{slots as proved, NextHop, Refusal};
 use std::collections::BTreeSet;
+use std::fmt::Debug;
 
 pub fn fault(refusal: Refusal) -> Fault {
     (refusal.number(), refusal.place())
@@ -28,6 +29,17 @@ pub fn fault(refusal: Refusal) -> Fault {
 /// The answer of a lookup in the library, in numbers.
 pub fn numbers(found: Result<Option<NextHop>, Refusal>) -> Result<u32, Fault> {
     found.map(|hop| hop.map_or(0, |hop| hop.get().into())).map_err(fault)
+}
+
+/// The library's answers for some addresses are those of the second program: one for each address, or a refusal of them all.
+fn alike(keys: &[u32], found: &[Result<u32, Fault>], expected: Result<Vec<u32>, Fault>, table: &impl Debug) {
+    let expected = match expected {
+        Ok(hops) => hops.into_iter().map(Ok).collect(),
+        Err(fault) => vec![Err(fault); keys.len()],
+    };
+    if let Some(i) = (0..keys.len()).find(|&i| found[i] != expected[i]) {
+        panic!("{:?}, not {:?}, for {} in {table:?}", found[i], expected[i], keys[i]);
+    }
 }
 
 /// A set of a prefix, or its removal where there is no hop.
@@ -67,7 +79,7 @@ pub fn check(image: &Image) -> Result<usize, Fault> {
 }
 
 /// What the library answers for the address `q`.
-pub fn library_lookup(image: &Image, q: u32) -> Result<u32, Fault> {
+fn library_lookup(image: &Image, q: u32) -> Result<u32, Fault> {
     counted(
         Call::SlotLookup,
         numbers(proved::lookup(&image.addresses, &image.tags, q)),
@@ -78,10 +90,8 @@ pub fn library_lookup(image: &Image, q: u32) -> Result<u32, Fault> {
 pub fn lookups(image: &Image, keys: &[u32]) -> Vec<Result<u32, Fault>> {
     let lent = image.clone();
     let found: Vec<_> = keys.iter().map(|&q| library_lookup(&lent, q)).collect();
-    for (&q, &found) in keys.iter().zip(&found) {
-        let expected = plain::lookup(&image.addresses, &image.tags, q);
-        assert_eq!(found, expected, "{q} in {image:?}");
-    }
+    let expected = plain::lookups(&image.addresses, &image.tags, keys);
+    alike(keys, &found, expected, image);
     assert!(lent == *image, "a lookup changed {image:?}");
     found
 }

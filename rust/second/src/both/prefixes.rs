@@ -41,8 +41,8 @@ pub fn check(rows: &Rows) -> Result<usize, Fault> {
 pub fn lookups(rows: &Rows, keys: &[u32]) -> Vec<Result<u32, Fault>> {
     let lent = entries(rows);
     let found: Vec<_> = keys.iter().map(|&q| library_lookup(&lent, q)).collect();
-    for (&q, &found) in keys.iter().zip(&found) {
-        assert_eq!(found, list::lookup(rows, q), "{q} in {rows:?}");
+    for ((&q, found), expected) in keys.iter().zip(&found).zip(&list::lookups(rows, keys)) {
+        assert_eq!(found, expected, "{q} in {rows:?}");
     }
     assert!(lent == entries(rows), "a lookup changed {rows:?}");
     found

@@ -1,7 +1,7 @@
 //! The range calls, asked of both programs.
 
 use super::calls::{counted, Call};
-use super::{fault, numbers};
+use super::{alike, fault, numbers};
 use crate::random::{Random, Rows};
 use crate::ranges::{self as plain, Ranges};
 use crate::Fault;
@@ -48,7 +48,7 @@ pub fn built(list: &Rows) -> Ranges {
 }
 
 /// What the library answers for the address `q`.
-pub fn library_lookup(ranges: &Ranges, q: u32) -> Result<u32, Fault> {
+fn library_lookup(ranges: &Ranges, q: u32) -> Result<u32, Fault> {
     counted(
         Call::RangeLookup,
         numbers(proved::lookup(&ranges.starts, &ranges.hops, q)),
@@ -59,9 +59,7 @@ pub fn library_lookup(ranges: &Ranges, q: u32) -> Result<u32, Fault> {
 pub fn lookups(ranges: &Ranges, keys: &[u32]) -> Vec<Result<u32, Fault>> {
     let lent = ranges.clone();
     let found: Vec<_> = keys.iter().map(|&q| library_lookup(&lent, q)).collect();
-    for (&q, &found) in keys.iter().zip(&found) {
-        assert_eq!(found, plain::lookup(ranges, q), "{q} in {ranges:?}");
-    }
+    alike(keys, &found, plain::lookups(ranges, keys), ranges);
     assert!(lent == *ranges, "a lookup changed {ranges:?}");
     found
 }

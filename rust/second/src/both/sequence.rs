@@ -1,17 +1,18 @@
 //! A random sequence of updates, each asked of the library, of the second program's plans and of the book.
 //!
-//! After every call the image is the book's. Every cut of every accepted plan is made on a copy by both programs, and lookups
-//! in it answer as the set before the update, or from the write on that shows the update as the set after. On tables of up to
-//! 64 slots each cut is asked at every edge of every prefix, of both programs. On 4,096 slots a lookup takes microseconds and a
-//! plan's test of the image milliseconds: there each cut asks the library at a sample of the edges, as `cuts_at_some_edges`
-//! says.
+//! After every call the image is the book's. Every cut of every accepted plan is made on a copy by both programs, and lookups of
+//! both in it answer as the set before the update, or from the write on that shows the update as the set after. On tables of up
+//! to 64 slots each cut is asked at every edge of every prefix. On 4,096 slots that is up to 16,384 addresses for each cut: there
+//! one accepted update in 2,000 is asked so, the first among them, and the others at the edges that `cuts_at_some_edges` names.
 
 use super::{edges, remove, set, Update};
 use crate::book::Book;
 use crate::list::answer;
 use crate::random::{Random, Rows};
 use crate::slots::Image;
+use crate::Fault;
 use std::collections::{HashMap, HashSet};
+use std::ops::AddAssign;
 
 /// How often each kind of call came.
 #[derive(Default, Debug)]
@@ -34,8 +35,25 @@ pub struct Seen {
     pub empty: usize,
 }
 
+impl AddAssign for Seen {
+    fn add_assign(&mut self, other: Self) {
+        let add = |counts: &mut [usize], more: &[usize]| counts.iter_mut().zip(more).for_each(|(n, more)| *n += more);
+        add(&mut self.sets, &other.sets);
+        self.other_hop += other.other_hop;
+        self.same_hop += other.same_hop;
+        add(&mut self.removals, &other.removals);
+        self.edge_moves += other.edge_moves;
+        add(&mut self.refused, &other.refused);
+        self.full += other.full;
+        self.empty += other.empty;
+    }
+}
+
 /// A table of up to so many slots is asked at every edge of every prefix on every cut.
 const ALL_EDGES: usize = 64;
+
+/// On a larger table one accepted update in so many is, the first among them.
+const ONE_IN: usize = 2000;
 
 /// A table in the middle of a sequence.
 pub struct Run<'a> {
@@ -51,6 +69,8 @@ pub struct Run<'a> {
     pub least: usize,
     /// One call in so many is at odds with the filling or emptying of the table, or has a fault.
     odd: u64,
+    /// The accepted updates.
+    accepted: usize,
     /// Where the rotating sample of prefixes stands.
     turn: usize,
     seen: &'a mut Seen,
@@ -68,20 +88,24 @@ impl<'a> Run<'a> {
             filling: true,
             least: 0,
             odd,
+            accepted: 0,
             turn: 0,
             seen,
         }
     }
 
-    /// Feeds the book alone until it has so many entries or the supply ends, and takes over its image.
+    /// Sets prefixes of the supply, one after the other, until the table has so many entries or the supply ends. No cut of their
+    /// plans is asked.
     pub fn prefill(&mut self, entries: usize) {
         for i in 0..self.supply.len() {
             if self.book.entries() < entries {
                 let (address, length) = self.supply[i];
-                self.book.set(address, length, 1 + i as u32, 54).unwrap();
+                let update = set(address, length, 1 + i as u32);
+                let plan = self.planned(update, 54).unwrap();
+                super::apply(&mut self.image, &plan, plan.len() / 3).unwrap();
+                assert!(self.image == self.book.image(), "the image after {update:?}");
             }
         }
-        self.image = self.book.image();
         self.list = self.book.set_of_entries();
         assert_eq!(super::check(&self.image), Ok(self.book.entries()));
     }
@@ -109,8 +133,7 @@ impl<'a> Run<'a> {
             54 + self.random.below(4) as usize
         };
         self.call(update, room);
-        let large = self.image.tags.len() > ALL_EDGES;
-        if self.random.one_in(if large { 50 } else { 10 }) {
+        if self.random.one_in(10) {
             self.damaged(update, room);
         }
     }
@@ -182,24 +205,35 @@ impl<'a> Run<'a> {
         }
     }
 
-    /// One update, asked of all three; where it is accepted, each of its cuts, then the whole.
-    fn call(&mut self, update: Update, room: usize) {
+    /// One update, asked of all three: the cells of its writes, or the refusal.
+    fn planned(&mut self, update: Update, room: usize) -> Result<Vec<u32>, Fault> {
         let Update { address, length, hop } = update;
-        let absent = length <= 32 && !self.book.has(address, length);
         let said = match hop {
             Some(hop) => self.book.set(address, length, hop, room),
             None => self.book.remove(address, length, room),
         };
         let plan = super::plan(&self.image, update, room);
         assert_eq!(plan.clone().map(|cells| cells.len() / 3), said, "{update:?}, the book");
-        match plan {
+        plan
+    }
+
+    /// One update; where it is accepted, each of its cuts, then the whole.
+    fn call(&mut self, update: Update, room: usize) {
+        let absent = update.length <= 32 && !self.book.has(update.address, update.length);
+        match self.planned(update, room) {
             Err((number, _)) => self.seen.refused[usize::from(number)] += 1,
             Ok(plan) => {
                 self.count(update, absent, &plan);
                 let after = self.book.set_of_entries();
                 // the write that shows the update
-                let shown = if hop.is_some() && absent { plan.len() / 3 } else { 1 };
-                if self.image.tags.len() <= ALL_EDGES {
+                let shown = if update.hop.is_some() && absent {
+                    plan.len() / 3
+                } else {
+                    1
+                };
+                let at_all = self.image.tags.len() <= ALL_EDGES || self.accepted.is_multiple_of(ONE_IN);
+                self.accepted += 1;
+                if at_all {
                     self.cuts_at_all_edges(update, &plan, shown, &after);
                 } else {
                     self.cuts_at_some_edges(update, &plan, shown, &after);
@@ -225,7 +259,7 @@ impl<'a> Run<'a> {
         }
     }
 
-    /// Both programs, on every cut, at the edges of every prefix of the set before and of the set after.
+    /// On every cut, the edges of every prefix of the set before and of the set after.
     fn cuts_at_all_edges(&mut self, update: Update, plan: &[u32], shown: usize, after: &Rows) {
         let mut keys = vec![0, u32::MAX];
         for list in [&self.list, after] {
@@ -234,36 +268,23 @@ impl<'a> Run<'a> {
         }
         keys.sort_unstable();
         keys.dedup();
-        let answers = |list: &Rows| -> Vec<_> {
-            let rows = (&list.addresses, &list.lengths, &list.hops);
-            keys.iter().map(|&q| Ok(answer(rows.0, rows.1, rows.2, q))).collect()
-        };
+        let answers = |list| -> Vec<_> { keys.iter().map(|&q| answer_in(list, q)).collect() };
         let (old, new) = (answers(&self.list), answers(after));
-        let writes = plan.len() / 3;
-        for k in 0..=writes {
-            let mut cut = self.image.clone();
-            super::apply(&mut cut, plan, k).unwrap();
-            let expected = if k < shown { &old } else { &new };
-            assert_eq!(super::lookups(&cut, &keys), *expected, "after {k} writes of {update:?}");
-            if 0 < k && k < writes && self.random.one_in(8) {
-                // a prefix stands twice
-                assert!(matches!(super::plan(&cut, update, 54), Err((7, _))), "{cut:?}");
-                self.seen.refused[7] += 1;
-            }
+        for k in 0..=plan.len() / 3 {
+            self.cut(update, plan, k, &keys, if k < shown { &old } else { &new });
         }
     }
 
-    /// The library, on every cut, at a sample of the edges: those of the updated prefix, of the prefix written last, of the
-    /// prefix to be written next, and of one more prefix of the set after, another one each time. After the last write also the
-    /// edges of all prefixes written.
+    /// On every cut, a sample of the edges: those of the updated prefix, of the prefix written last, of the prefix to be written
+    /// next, and of one more prefix of the set after, another one each time. After the last write also the edges of all prefixes
+    /// written.
     fn cuts_at_some_edges(&mut self, update: Update, plan: &[u32], shown: usize, after: &Rows) {
-        let (old, new) = (Routes::of(&self.list), Routes::of(after));
         let cells = plan.chunks_exact(3).map(|write| edges(write[1], write[2] >> 16));
         let written: Vec<[u32; 4]> = cells.collect();
         let writes = written.len();
+        // cuts have addresses in common
+        let mut known = HashMap::new();
         for k in 0..=writes {
-            let mut cut = self.image.clone();
-            super::apply(&mut cut, plan, k).unwrap();
             let mut keys = edges(update.address, update.length).to_vec();
             let near = if k == writes { 0 } else { k.saturating_sub(1) };
             keys.extend(written[near..writes.min(k + 1)].iter().flatten());
@@ -273,15 +294,23 @@ impl<'a> Run<'a> {
             }
             keys.sort_unstable();
             keys.dedup();
-            let routes = if k < shown { &old } else { &new };
-            for &q in &keys {
-                let found = super::library_lookup(&cut, q);
-                assert_eq!(found, Ok(routes.answer(q)), "{q} after {k} writes of {update:?}");
-            }
+            let list = if k < shown { &self.list } else { after };
+            let answer = |&q| *known.entry((k < shown, q)).or_insert_with(|| answer_in(list, q));
+            let expected: Vec<_> = keys.iter().map(answer).collect();
+            self.cut(update, plan, k, &keys, &expected);
         }
-        // the set's answers by lengths are those of the list
-        let q = self.random.number() as u32 & update.address;
-        assert_eq!(new.answer(q), answer(&after.addresses, &after.lengths, &after.hops, q));
+    }
+
+    /// What both programs answer on a copy after `k` writes of a plan. Between the first write and the last a prefix stands twice:
+    /// some of these copies are asked for a plan too, which is refused.
+    fn cut(&mut self, update: Update, plan: &[u32], k: usize, keys: &[u32], expected: &[Result<u32, Fault>]) {
+        let mut cut = self.image.clone();
+        super::apply(&mut cut, plan, k).unwrap();
+        assert_eq!(super::lookups(&cut, keys), expected, "after {k} writes of {update:?}");
+        if 0 < k && k < plan.len() / 3 && self.random.one_in(8) {
+            assert!(matches!(super::plan(&cut, update, 54), Err((7, _))), "{cut:?}");
+            self.seen.refused[7] += 1;
+        }
     }
 
     /// A plan that is too short or damaged, or rows of unequal length: refused, and the copy as it was.
@@ -318,21 +347,9 @@ impl<'a> Run<'a> {
     }
 }
 
-/// A set by its prefixes: the answer is that of the greatest length at which the address, cut to it, is there.
-struct Routes(HashMap<(u32, u32), u32>);
-
-impl Routes {
-    fn of(list: &Rows) -> Self {
-        let prefixes = list.addresses.iter().copied().zip(list.lengths.iter().copied());
-        Routes(prefixes.zip(list.hops.iter().copied()).collect())
-    }
-
-    fn answer(&self, q: u32) -> u32 {
-        let hop = (0..=32)
-            .rev()
-            .find_map(|length| self.0.get(&(cut_to(q, length), length)));
-        hop.copied().unwrap_or(0)
-    }
+/// The answer of a set.
+fn answer_in(list: &Rows, q: u32) -> Result<u32, Fault> {
+    Ok(answer(&list.addresses, &list.lengths, &list.hops, q))
 }
 
 /// An address with the bits behind the prefix's length put to 0.
