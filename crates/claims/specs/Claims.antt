@@ -31,7 +31,8 @@ pub record Claims : Type 0 where
   pub board : got ≡ expected
   -- The reader of update records accepts exactly what a writer writes, and its places lie in the input.
   pub records : (W : ℕ) → W ≤ 32 → RecordForms W
-  -- The parts of a report, one after another, are the report, whatever the buffers' lengths.
+  -- The parts of a report, one after another, are the report, whatever the buffers' lengths; a buffer is refused exactly where the next
+  -- line does not fit it.
   pub parts : (bs rooms : List ℕ) → WholeReport bs rooms
   -- The report of any input can be worked out from the book alone.
   pub report : ReportOfBook

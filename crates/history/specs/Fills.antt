@@ -38,11 +38,12 @@ printed (suc k) bs room s t =
 abbrev pub part : List ℕ → ℕ → Stage → Rows → Printed
 part bs room s t = printed (stepsLeft (length bs) (length (t .addresses)) s) bs room s t
 
--- the next line: that of the first of at most k steps that prints one
+-- a line, or the other where it has no bytes
 abbrev pub orElse : List ℕ → List ℕ → List ℕ
 orElse [] other = other
 orElse (b ∷ line) other = b ∷ line
 
+-- the next line: that of the first step, of at most k, that prints one
 abbrev pub lineWithin : ℕ → List ℕ → Stage → Rows → List ℕ
 lineWithin zero bs s t = []
 lineWithin (suc k) bs s t = orElse (stepText bs s t) (lineWithin k bs (stepTo bs s t .stage) (stepTo bs s t .table))
