@@ -9,7 +9,7 @@ use std::hint::black_box;
 pub fn all(measure: &mut dyn Measure) {
     for (entries, calls) in [(1, 50_000), (8, 20_000), (16, 20_000), (256, 200), (4096, 1)] {
         let asked = match entries {
-            16 => Some(0.77),
+            16 => Some(1.10),
             256 => Some(0.07),
             4096 => Some(0.01),
             _ => None,

@@ -81,7 +81,7 @@ pub fn build_beside_check(measure: &mut dyn Measure) {
     let list = routes(ENTRIES);
     let mut rows = room(ENTRIES);
     measure.compare(
-        Operation::new("range build, beside its list check", format!("{ENTRIES} entries"), 1).asked(2.0),
+        Operation::new("range build, beside its list check", format!("{ENTRIES} entries"), 1),
         [
             &mut || {
                 let _ = black_box(proved_build(black_box(&list), black_box(&mut rows)));
