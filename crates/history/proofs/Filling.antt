@@ -118,9 +118,9 @@ module _ {bs : List ℕ} {s₀ : Stage} {t₀ : Rows} {buffer₀ : List ℕ} {s 
     size = length-take-le at buffer (omega (arith, f .size, f .within))
 
     -- the next line fits, unless nothing is printed and the report is not done
-    pub filling-end : Ready bs s₀ t₀ → (eqb at 0 && not (isDone s)) ≡ false →
+    pub filling-end : (eqb at 0 && not (isDone s)) ≡ false →
         IsFill (fillWith (roomFault bs s₀ t₀ (length buffer₀)) bs s₀ t₀ buffer₀) (printedTo at s) t buffer
-    filling-end r some =
+    filling-end some =
         byTest (ltb (length buffer₀) (length (nextLine bs s₀ t₀)))
         (λ b.
         let h = too-short bs (stepsLeft (length bs) (length (t₀ .addresses)) s₀) (length buffer₀) s₀ t₀ (ltb-true _ _ b) in
@@ -164,12 +164,12 @@ module _ {d : Bool} (goes : d ≡ false) where
   by-size room n e =
       byTest (ltb room n) (λ b. rw (goes, e, b, lt-leb n room (ltb-true room n b))) (λ b. rw (goes, e, b, le-leb n room (ltb-false room n b)))
 
+-- what the test says where it is true
+pub goes-on : (b : Bool) (room n : ℕ) → not (b || ltb room n) ≡ true → (b ≡ false) × (n ≤ room)
+goes-on true room n e = clash e refl
+goes-on false room n e = (refl, ltb-false room n (not-true (ltb room n) e))
+
 -- a step's size, where its line fits
 pub stepped-fits : {bs : List ℕ} {s : Stage} {t : Rows} {buffer : List ℕ} {r : Stepped} {t′ : Rows} {buffer′ : List ℕ} {room : ℕ} →
     IsStep bs s t buffer r t′ buffer′ → length (stepText bs s t) ≤ room → r .size ≤ room
 stepped-fits h l = omega (arith, h .line .counts)
-
--- what it says where it is true
-pub goes-on : (b : Bool) (room n : ℕ) → not (b || ltb room n) ≡ true → (b ≡ false) × (n ≤ room)
-goes-on true room n e = clash e refl
-goes-on false room n e = (refl, ltb-false room n (not-true (ltb room n) e))

@@ -103,7 +103,6 @@ listFine W i earlier (r ∷ rs) v d f =
 
 -- rows of a right size have one length, their fault is that of the entries, and the parts that are as long as the first row are the rows
 pub record Sized (ad ns hs : List ℕ) : Type 0 where
-  pub size : fine ≡ rowsSizeFault ad ns hs
   pub equal : EqualRows ad ns hs
   pub few : length ad ≤ maxRoutes
   pub entries : (W : ℕ) → rowsFault W ad ns hs ≡ listFault W 0 [] (routes ad ns hs)
@@ -117,7 +116,6 @@ sized ad ns hs e =
     let second = eqb-true (length ad) (length ns) (h .0) in
     let third = eqb-true (length ad) (length hs) (h .1) in
     record {
-      size = e;
       equal = record { second = second; third = third };
       few = leb-true _ _ (h .2);
       entries = λ W. rw (← e);

@@ -8,7 +8,7 @@
 // own in the compiled code: its filters are in no frame of a short list. It is handed slices of its
 // own, so that those of a short list stay in registers.
 ghost use mathlib.Core.Path.{_≡_};
-ghost use Prim.Native.Nat.{_≤_, _<_};
+ghost use Prim.Native.Nat.{_<_};
 ghost use mathlib.Core.List.{[]};
 ghost use lib.ListN.{length};
 ghost use Rattle.route.specs.Rule.{improved, longest};

@@ -14,7 +14,8 @@ pub fn all(measure: &mut dyn Measure) {
             4096 => Some(0.01),
             _ => None,
         };
-        let operation = Operation::new("list check", format!("{entries} entries"), calls);
+        let unit = if entries == 1 { "entry" } else { "entries" };
+        let operation = Operation::new("list check", format!("{entries} {unit}"), calls);
         check(measure, Operation { asked, ..operation }, &list_of(entries));
         if entries >= 16 {
             lookup(measure, entries, calls);

@@ -84,7 +84,7 @@ returns-2 : tie.Need-returns-2 Inv-loop μ-loop
 returns-2 c =
     let e = c .before .before in
     let a = e .before .before .before .before in
-    filling-end (a .loop .inv .0) (stopped e) (a .before .before .before .before .before .pre .0) (rw (← c .before .is-done .ensures) (c .if2 .left))
+    filling-end (a .loop .inv .0) (stopped e) (rw (← c .before .is-done .ensures) (c .if2 .left))
 
 pub fill-lines-spec : {M : Type 1} → statement M
 fill-lines-spec =
