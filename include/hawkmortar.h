@@ -171,6 +171,37 @@ struct hawkmortar_outcome hawkmortar_apply(
     size_t k);
 
 /*
+ * The download: a table's entries, one to a call, in order of address, then length. Nothing is kept between two
+ * calls and nothing is locked: a program that makes calls and single slot writes in turn may write what it likes of
+ * accepted plans between two calls. The walk then rises; a prefix in the table at every call of a walk that comes to
+ * its end is given exactly once, one that is there at none is never given, and one that comes or goes meanwhile may
+ * be given or not. A call that runs while a slot is being written reads an image that no plan leaves; keep calls and
+ * writes apart.
+ */
+
+/*
+ * The first entry of a table. The pointer entry is to three numbers, no part of the rows: address, length and tag.
+ * Value: 1 where there is an entry; 0 where there is none, which leaves entry as it was. Of a prefix in several
+ * slots the first slot's tag is given.
+ * Refusals: 8; 7, the place being the first slot that breaks S1, wherever it lies.
+ */
+struct hawkmortar_outcome hawkmortar_download_first(
+    const uint32_t *addresses, size_t addresses_len,
+    const uint32_t *tags, size_t tags_len,
+    uint32_t *entry);
+
+/*
+ * The next entry past a prefix, which is the one given last or any other: it need not be in the table.
+ * Value: as of hawkmortar_download_first; 0 is the end.
+ * Refusals: as of hawkmortar_download_first; then 1, 2 of the prefix.
+ */
+struct hawkmortar_outcome hawkmortar_download_next(
+    const uint32_t *addresses, size_t addresses_len,
+    const uint32_t *tags, size_t tags_len,
+    uint32_t address, uint32_t length,
+    uint32_t *entry);
+
+/*
  * Ranges: two rows, of starts and next hops, hop 0 being none. The first range starts at 0, each range ends
  * just before the next start, the last at 255.255.255.255, and neighbouring ranges have different hops.
  */

@@ -3,7 +3,7 @@ use Prim.Native.Nat.{ℕ, _*_, _≤_}
 use mathlib.Core.Path.{_≡_, refl, ap, _∙_}
 use mathlib.Core.Bool.{Bool, true, false, cond}
 use mathlib.Core.List.{List}
-use native.Mathlib.Nat.{le-refl}
+use native.Mathlib.Nat.{le-refl, le-of-lt}
 use lib.Dec.{ltb}
 use lib.ListN.{length, take}
 use lib.Seq.{take-length}
@@ -87,6 +87,8 @@ module _ (W M : ℕ) (i : 1 ≤ M) (j : M ≤ maxSlots) (b : Book) (ok : BookOk 
             (keeps-written W M 0 (bookImage W M b) (take k ws) (image-keeps W M b ok) (faultless-first W M 0 k ws (l .good .faultless 0))) q
             ∙ ap value (l .cuts k n q);
       };
+      unfinished = λ k m n.
+          rw (after-is W (bookImage W M b) low high ws cs-good row k (le-of-lt n)) (l .unfinished k m n);
     }
 
   module _ (back : Table → State) (rest : State → Type 0) (backs : (t : Table) → Holding W M t → rest (back t))
@@ -97,7 +99,7 @@ module _ (W M : ℕ) (i : 1 ≤ M) (j : M ≤ maxSlots) (b : Book) (ok : BookOk 
     Answered p e = PlanClaim W M (tableOf W M b rs) row back rest (record { plan = p; booked = e; routes = nextRoutes; switch = switch; most = most })
 
     pub answers-refused : (x y : ℕ) → Answered (refuses x y) (record { answer = refused x y; book = b })
-    answers-refused x y = (refl, (sound i j holding, backs (tableOf W M b rs) holding))
+    answers-refused x y = (refl, sound i j holding, backs (tableOf W M b rs) holding)
 
     pub answers-room : (ws : List Write) (next : Book) (w : ℕ) → Leads W M b rs ws next nextRoutes (switch (length ws)) → length ws ≡ w → w ≤ most
         → Answered (withRoom (length row) fine ws) (settled fine (length row) w b next)
@@ -108,8 +110,6 @@ module _ (W M : ℕ) (i : 1 ≤ M) (j : M ≤ maxSlots) (b : Book) (ok : BookOk 
         go true = answers-refused roomRefusal 0
         go false = (
           refl,
-          (
-            acceptedPlan ws next nextRoutes (switch (length ws)) l row most (rw e m),
-            plans _ _ _ holding (holding-next ws next nextRoutes (switch (length ws)) l row),
-          ),
+          acceptedPlan ws next nextRoutes (switch (length ws)) l row most (rw e m),
+          plans _ _ _ holding (holding-next ws next nextRoutes (switch (length ws)) l row),
         )

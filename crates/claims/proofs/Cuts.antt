@@ -1,6 +1,7 @@
 -- What every plan comes to: its writes can be made, the whole of them leads to the next book's image, and every cut looks up right.
 use Prim.Native.Nat.{ℕ, suc, zero, _≤_, _<_}
 use mathlib.Core.Path.{_≡_, refl, sym, ap, _∙_}
+use mathlib.Core.Logic.{_≢_}
 use mathlib.Core.Bool.{Bool, true, false, cond}
 use mathlib.Core.List.{List, [], _∷_, _++_}
 use native.Mathlib.Nat.{le-refl}
@@ -10,14 +11,16 @@ use lib.ListN.{length, length-append, take}
 use lib.Seq.{take-all, set-append-seam}
 use borrow.Author.Tests.{lt-ltb, le-ltb, ltb-true, ltb-false}
 use Rattle.route.specs.Rule.{Route, answer}
-use Rattle.tcam.specs.Slots.{Cell, isFree, firstMatch}
+use Rattle.route.specs.Refusals.{fine}
+use Rattle.tcam.specs.Slots.{Cell, isFree, imageFault, firstMatch}
 use Rattle.tcam.specs.Plans.{Write, write}
 use Rattle.tcam.specs.Applies.{written}
 use Rattle.tcam.specs.Book.{Book, bookImage}
 use Rattle.tcam.specs.Tables.{routesIn}
 use Rattle.tcam.proofs.Whole.{Makeable, none-makeable}
 use Rattle.claims.proofs.Look.{firstMatch-first}
-use Rattle.claims.proofs.Walk.{seen, seen-after, walk-whole, walk-cuts, walk-cleared}
+use Rattle.claims.proofs.Walk.{seen, seen-after, walk-whole, walk-twice, walk-cuts, walk-cleared}
+use Rattle.claims.proofs.Twice.{twice-breaks}
 use Rattle.claims.proofs.Image.{BookOk}
 use Rattle.claims.proofs.Update.{Update}
 use Rattle.claims.proofs.Form.{image-length}
@@ -31,6 +34,7 @@ pub record Leads (W M : ℕ) (b : Book) (rs : List Route) (ws : List Write) (nex
   pub same : Same (routesIn (bookImage W M next)) after
   pub whole : written (bookImage W M b) ws ≡ bookImage W M next
   pub cuts : (k : ℕ) → k ≤ length ws → (q : ℕ) → firstMatch W (written (bookImage W M b) (take k ws)) q ≡ cond (ltb k switch) (answer W rs q) (answer W after q)
+  pub unfinished : (k : ℕ) → 1 ≤ k → k < length ws → imageFault W 0 [] (written (bookImage W M b) (take k ws)) ≢ fine
 
 -- the walk starts in the table
 pub starts-inside : {W M : ℕ} {b : Book} {gap last : Cell} {plan : ℕ → List Write} {next : Book} {w : ℕ} → BookOk W M b
@@ -52,6 +56,11 @@ module _ (W M : ℕ) (b : Book) (ok : BookOk W M b) (rs : List Route) (same : Sa
   cut-some : (k : ℕ) → suc k < length ws → (q : ℕ) → firstMatch W (written (bookImage W M b) (take (suc k) ws)) q ≡ seen W q (u .front ++ u .back) 0
   cut-some k i q = firstMatch-first W (written (bookImage W M b) (take (suc k) ws)) q ∙ rw (u .before) (walk-cuts W q last (u .walks .walk) k 0 i)
 
+  -- between the first write and the last an entry stands twice
+  broken : (k : ℕ) → 1 ≤ k → k < length ws → imageFault W 0 [] (written (bookImage W M b) (take k ws)) ≢ fine
+  broken zero i j = absurd (omega arith)
+  broken (suc k) i j = rw (u .before) (twice-breaks W 0 [] (walk-twice W last (u .walks .walk) k j))
+
   module _ (after : List Route) (next-same : Same (routesIn (bookImage W M next)) after) where
     cut-all : (k : ℕ) → length ws ≤ k → (q : ℕ) → firstMatch W (written (bookImage W M b) (take k ws)) q ≡ answer W after q
     cut-all k i q = rw (take-all k ws, update-whole) (looks-up W M next (u .ok) after next-same q)
@@ -59,7 +68,7 @@ module _ (W M : ℕ) (b : Book) (ok : BookOk W M b) (rs : List Route) (same : Sa
     leads : Makeable W M ws → (switch : ℕ) → 1 ≤ switch → switch ≤ length ws
         → ((k : ℕ) → suc k < length ws → (q : ℕ) → seen W q (u .front ++ u .back) 0 ≡ cond (ltb (suc k) switch) (answer W rs q) (answer W after q))
         → Leads W M b rs ws next after switch
-    leads h switch i j some = record { good = h; ok = u .ok; same = next-same; whole = update-whole; cuts = cuts }
+    leads h switch i j some = record { good = h; ok = u .ok; same = next-same; whole = update-whole; cuts = cuts; unfinished = broken }
       where
         more : (k q : ℕ) (t : Bool) → ltb (suc k) (length ws) ≡ t
             → firstMatch W (written (bookImage W M b) (take (suc k) ws)) q ≡ cond (ltb (suc k) switch) (answer W rs q) (answer W after q)
@@ -92,7 +101,7 @@ module _ (W M : ℕ) (b : Book) (ok : BookOk W M b) (rs : List Route) (same : Sa
 
     -- no write at all, where the entry is already there
     pub leads-unchanged : gap ≡ last → ws ≡ write (length (u .front)) last ∷ [] → Leads W M b rs [] next after 1
-    leads-unchanged e p = record { good = none-makeable; ok = u .ok; same = next-same; whole = whole; cuts = cuts }
+    leads-unchanged e p = record { good = none-makeable; ok = u .ok; same = next-same; whole = whole; cuts = cuts; unfinished = λ k i j. absurd (omega arith) }
       where
         whole : bookImage W M b ≡ bookImage W M next
         whole = u .before ∙ ap (λ (c : Cell). u .front ++ (c ∷ u .back)) e ∙ sym (set-append-seam (u .front) gap (u .back) last)

@@ -74,7 +74,7 @@ module _ (W M : ℕ) (i : 1 ≤ M) (j : M ≤ maxSlots) where
     idles = remove-claim cs (safe cs) a n row idle (safe cs .idles);
     plans = λ p t u h g. remove-claim cs (safe cs) a n row (λ b. planned p b u) (λ b k. safe cs .plans p b u k g) t h;
   }
-  safe (applyPlan ∷ cs) = record { idles = λ t h. safe cs .idles t h; plans = λ p t u h g. (sound i j g, safe cs .idles u g) }
+  safe (applyPlan ∷ cs) = record { idles = λ t h. (tt, safe cs .idles t h); plans = λ p t u h g. (sound i j g, safe cs .idles u g) }
   safe (applyRefused row k ∷ cs) = record {
     idles = λ t h. (untouched W (t .image) row k, safe cs .idles t h);
     plans = λ p t u h g. (untouched W (t .image) row k, safe cs .plans p t u h g);

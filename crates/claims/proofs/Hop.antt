@@ -14,7 +14,7 @@ use Rattle.tcam.specs.Plans.{Write, copied, openAfter}
 use Rattle.claims.proofs.Join.{join, around-is, join-nil, nil-join, join-assoc, length-join, place, place-same}
 use Rattle.claims.proofs.Walk.{Walk, step}
 use Rattle.claims.proofs.Row.{Row}
-use Rattle.claims.proofs.Turn.{Ended, empty, edge, turn, turn-nil, turn-is, row-edge, filled, filled-edge}
+use Rattle.claims.proofs.Turn.{Ended, empty, edge, turn, turn-nil, turn-is, row-edge, edge-used, filled, filled-edge}
 
 -- a walk of so many writes
 pub record Walks (W : ℕ) (last : Cell) (p : List Cell) (f : Cell) (s : List Cell) (ws : List Write) (g : List Cell) (n : ℕ) : Type 0 where
@@ -52,4 +52,4 @@ module _ {W l : ℕ} (last : Cell) (cs : List Cell) (rest : ℕ → List Write) 
       rw (e, join-assoc, around-is up a x t) (getD-at (cond up a t) x (cond up t a) free at (edge-place up a x xs S b s)) in
       let w′ = rw (turn-is, join-assoc) at (go x) in
       rw (filled-edge, x-is, turn-is, join-assoc)
-      (record { walk = step up a x xs b refl (row-edge up x xs w) (w′ .walk); many = omega (arith, w′ .many) })
+      (record { walk = step up a x xs b refl (edge-used up x xs w) (row-edge up x xs w) (w′ .walk); many = omega (arith, w′ .many) })

@@ -30,6 +30,7 @@ pub mod HasPrefix
 pub mod Set
 -- plans applied, cut, answered; the claim
 pub mod Apply
+pub mod Twice
 pub mod Cuts
 pub mod Entry
 pub mod Answer
@@ -43,6 +44,12 @@ pub mod HasTable
 pub mod ReportOfBook
 pub mod PlanRoom
 pub mod Example
+-- the download: one call, any walk, the updates that go on, the claim
+pub mod NextEntry
+pub mod DownloadWalk
+pub mod Meanwhile
+pub mod Download
+pub mod DownloadCases
 -- a plan applied again, update records
 pub mod Reapplied
 pub mod RecordForms

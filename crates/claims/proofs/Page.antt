@@ -8,7 +8,9 @@ use Rattle.claims.proofs.Demand2.{demand2}
 use Rattle.claims.proofs.HasTable.{hasTable}
 use Rattle.claims.proofs.Demand3.{demand3}
 use Rattle.claims.proofs.Reapplied.{reapplied}
+use Rattle.claims.proofs.Download.{downloadClaim}
 use Rattle.claims.proofs.Board.{board}
+use Rattle.claims.proofs.DownloadCases.{downloadCases}
 use Rattle.claims.proofs.RecordForms.{recordForms}
 use Rattle.claims.proofs.ReportOfBook.{reportOfBook}
 use Rattle.claims.proofs.PlanRoom.{plansHaveRoom}
@@ -20,7 +22,9 @@ claims = record {
   hasTable = hasTable;
   demand3 = demand3;
   reapplied = reapplied;
+  download = downloadClaim;
   board = board;
+  downloads = downloadCases;
   records = recordForms;
   parts = wholeReport;
   report = reportOfBook;

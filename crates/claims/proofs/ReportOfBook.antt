@@ -18,7 +18,7 @@ use Rattle.records.specs.Records.{Update, removal, setting}
 use Rattle.lines.specs.Lines.{headerLine, refusedLine, tooLongLine}
 use Rattle.history.specs.Reports.{Rows, rows, slots, emptyRows, planRoom, planOf, after, updateText}
 use Rattle.history.specs.Reports.{Item, asks, unreadable, items, history, maxInput, reportSlots}
-use Rattle.claims.specs.Sequence.{Table, State, idle, planned, Request, setRequest, removeRequest, Outcome, PlanClaim}
+use Rattle.claims.specs.Sequence.{Table, State, idle, planned, Request, setRequest, removeRequest, ledTo, PlanClaim}
 use Rattle.claims.specs.ReportOfBook.{booked, bookText, bookHistory, ReportOfBook}
 use Rattle.claims.proofs.Times.{times}
 use Rattle.claims.proofs.Image.{BookOk}
@@ -79,7 +79,7 @@ module _ (W M : ℕ) (i : 1 ≤ M) (j : M ≤ maxSlots) (b : Book) (k : Kept W M
       → ((room : ℕ) (ws : List Write) → request room .plan ≡ writes ws → (row : List ℕ) → AppliesWhole W (addresses cs) (tags cs) ws row)
       → (room : ℕ) → Agrees W M b (request room .plan) (request room .booked)
   agrees request call applies room =
-      subst (λ m. Agrees W M b (request m .plan) (request m .booked)) (length-replicate room 0) (go (r .plan) refl (call row .0) (call row .1))
+      subst (λ m. Agrees W M b (request m .plan) (request m .booked)) (length-replicate room 0) (go (r .plan) refl (call row .0) (call row .2))
     where
       row : List ℕ
       row = replicate room 0
@@ -87,15 +87,15 @@ module _ (W M : ℕ) (i : 1 ≤ M) (j : M ≤ maxSlots) (b : Book) (k : Kept W M
       r : Request
       r = request (length row)
 
-      go : (p : Planned) → r .plan ≡ p → planAnswer p ≡ r .booked .answer → Outcome W M before row r idle Reached p → Agrees W M b p (r .booked)
-      go (refuses n q) e a o = record { answers = a; table = ap rowsOf (o .1 .isImage); next = kept (o .1) }
+      go : (p : Planned) → r .plan ≡ p → planAnswer p ≡ r .booked .answer → Reached (ledTo W before row r idle p) → Agrees W M b p (r .booked)
+      go (refuses n q) e a o = record { answers = a; table = ap rowsOf (o .isImage); next = kept o }
       go (writes ws) e a o =
           let w = applies (length row) ws e row in
-          let made = sym (stored-rows cs ws) ∙ sym (ap₂ cells (w .addresses) (w .tags)) ∙ o .1 .isImage in
+          let made = sym (stored-rows cs ws) ∙ sym (ap₂ cells (w .addresses) (w .tags)) ∙ o .isImage in
           record {
             answers = a;
             table = ap₂ rows (stored-map (λ c. c .address) cs ws) (stored-map (λ c. c .tag) cs ws) ∙ ap rowsOf made;
-            next = kept (o .1);
+            next = kept o;
           }
 
   set-agrees : (a n h room : ℕ) → Agrees W M b (planSet W (addresses cs) (tags cs) a n h room) (bookSet W M b a n h room)

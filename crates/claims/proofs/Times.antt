@@ -5,7 +5,7 @@ use mathlib.Core.Bool.{Bool, true, false}
 use mathlib.Core.List.{List, [], _∷_, _++_}
 use native.Mathlib.Nat.{zero-add, le-refl}
 use native.Mathlib.Omega.{arith}
-use lib.ListN.{set, replicate}
+use lib.ListN.{length, set, replicate}
 use Rattle.tcam.specs.Book.{countIf}
 
 module _ {A : Type 0} where
@@ -45,6 +45,14 @@ module _ {A : Type 0} where
       step : (a b : Bool) → (a ≡ true → b ≡ true) → countIf a ≤ countIf b
       step true b h = rw (h refl) (le-refl 1)
       step false b h = zero-le
+
+  pub times-most : (t : A → Bool) (xs : List A) → times t xs ≤ length xs
+  times-most t [] = zero-le
+  times-most t (x ∷ xs) = omega (arith, one (t x), times-most t xs)
+    where
+      one : (b : Bool) → countIf b ≤ 1
+      one true = le-refl 1
+      one false = zero-le
 
   pub times-same : (s t : A → Bool) (xs : List A) → All (λ x. s x ≡ t x) xs → times s xs ≡ times t xs
   times-same s t [] h = refl

@@ -8,12 +8,12 @@ use native.Mathlib.Omega.{arith}
 use lib.Dec.{ltb}
 use lib.ListN.{length}
 use borrow.Author.Tests.{lt-ltb}
-use Rattle.tcam.specs.Slots.{Cell}
+use Rattle.tcam.specs.Slots.{Cell, isFree}
 use Rattle.tcam.specs.Book.{countIf, firstToEnd, last, butLast, lastToFront}
 use Rattle.claims.proofs.Times.{All, times}
 use Rattle.claims.proofs.Join.{join, length-join, times-join, all-join, all-parts}
 use Rattle.claims.proofs.Look.{Apart}
-use Rattle.claims.proofs.Row.{Row, at, row-from, row-first}
+use Rattle.claims.proofs.Row.{IsEntry, Row, at, row-from, row-first}
 
 -- a row is empty, or the entry at its edge, the first or the last, and the others
 pub data Ended (d : Bool) : List Cell → Type 0 where
@@ -79,3 +79,6 @@ row-turn d r w = row-from (turn d r) w (all-turn _ (ended d r) (w .entries)) (λ
 pub row-edge : {W l : ℕ} (d : Bool) (x : Cell) (xs : List Cell) → Row W l (join d (x ∷ []) xs) → All (Apart W x) xs
 row-edge true x xs w = row-first w
 row-edge false x xs w = row-first (rw (turn-is false x xs) at (row-turn false (xs ++ (x ∷ [])) w))
+
+pub edge-used : {W l : ℕ} (d : Bool) (x : Cell) (xs : List Cell) → Row W l (join d (x ∷ []) xs) → isFree x ≡ false
+edge-used {W} {l} d x xs w = all-parts d (IsEntry W l) (x ∷ []) xs (w .entries) .0 .0 .used

@@ -6,7 +6,9 @@ use Rattle.history.specs.Whole.{WholeReport}
 use Rattle.claims.specs.Agreement.{Demand2, HasTable}
 use Rattle.claims.specs.Sequence.{Demand3}
 use Rattle.claims.specs.Reapplied.{Reapplied}
+use Rattle.claims.specs.Download.{DownloadClaim}
 use Rattle.claims.specs.Board.{got, expected}
+use Rattle.claims.specs.DownloadCases
 use Rattle.claims.specs.RecordForms.{RecordForms}
 use Rattle.claims.specs.ReportOfBook.{ReportOfBook}
 use Rattle.claims.specs.PlanRoom.{PlansHaveRoom}
@@ -27,8 +29,16 @@ pub record Claims : Type 0 where
   -- A plan can be applied write by write on one table, each time from its start: the first k writes leave what they leave of the table
   -- before the plan.
   pub reapplied : (W : ℕ) → Reapplied W
+  -- The download gives the prefixes of a table one to a call, in order of address, then length, while updates go on. Each call gives the
+  -- least prefix ahead, with its first slot's tag. Over any images the list rises, a prefix present in every image of a finished walk is
+  -- given exactly once, and one present in none never. With the calls of demand 3 and single writes of their plans between the calls,
+  -- every image is one that demand 3 speaks of and keeps S1, and no call is refused. A table that stays as it is takes at most a call more
+  -- than it has slots, and whatever is written a walk gives no more entries than there are prefixes.
+  pub download : (W : ℕ) → DownloadClaim W
   -- The board cases a to j come out as they stand on the board.
   pub board : got ≡ expected
+  -- So do the cases of the download.
+  pub downloads : DownloadCases.got ≡ DownloadCases.expected
   -- The reader of update records accepts exactly what a writer writes, and its places lie in the input.
   pub records : (W : ℕ) → W ≤ 32 → RecordForms W
   -- The parts of a report, one after another, are the report, whatever the buffers' lengths; a buffer is refused exactly where the next

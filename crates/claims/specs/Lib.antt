@@ -1,8 +1,10 @@
--- Demand 2, demand 3, a plan applied again, the board cases.
+-- Demand 2, demand 3, a plan applied again, the download, the board cases.
 pub mod Agreement
 pub mod Sequence
 pub mod Reapplied
+pub mod Download
 pub mod Board
+pub mod DownloadCases
 -- Update records, the report, answers as values.
 pub mod RecordForms
 pub mod ReportOfBook

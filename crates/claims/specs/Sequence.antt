@@ -5,7 +5,7 @@
 -- the table sound; and that an accepted one is bounded and right at every cut. At each apply of a plan it says that the table is sound
 -- again: the image of the book, and a table of its set; at each refused apply, that the table is as it was. The claim goes on after
 -- every call.
-use Prim.Native.Nat.{ℕ, _≤_}
+use Prim.Native.Nat.{ℕ, _≤_, _<_}
 use mathlib.Core.Path.{_≡_}
 use mathlib.Core.Logic.{_≢_}
 use mathlib.Core.Bool.{cond, _&&_}
@@ -16,9 +16,9 @@ use Rattle.route.specs.Rule.{Route, route, answer}
 use Rattle.route.specs.Refusals.{fine, Answer, value}
 use Rattle.route.specs.RightHop.{Right}
 use Rattle.route.specs.Lists.{hasPrefix}
-use Rattle.tcam.specs.Slots.{maxSlots, Cell, cells, free, slotLookup}
+use Rattle.tcam.specs.Slots.{maxSlots, Cell, cells, free, imageFault, slotLookup}
 use Rattle.tcam.specs.Tables.{addresses, tags, TableOf}
-use Rattle.tcam.specs.Plans.{Planned, refuses, writes, mostToSet, mostToRemove, planSet, planRemove, planAnswer, rowAfter}
+use Rattle.tcam.specs.Plans.{Write, Planned, refuses, writes, mostToSet, mostToRemove, planSet, planRemove, planAnswer, rowAfter}
 use Rattle.tcam.specs.Applies.{applyFault, applyAnswer, appliedAddresses, appliedTags}
 use Rattle.tcam.specs.Book.{Book, BookAnswer, emptyBook, bookImage, bookSet, bookRemove}
 
@@ -81,6 +81,8 @@ pub record AcceptedPlan (W most : ℕ) (p : Plan) (before next : Table) : Type 0
   pub rightBefore : (q : ℕ) → Right W (before .routes) q (answer W (before .routes) q)
   pub rightAfter : (q : ℕ) → Right W (next .routes) q (answer W (next .routes) q)
   pub cuts : (k : ℕ) → k ≤ p .writes → Cut W p before next k
+  -- with some of its writes made, and not all, the table breaks a rule: updates refuse it with 7 until the plan is made to its end
+  pub unfinished : (k : ℕ) → 1 ≤ k → k < p .writes → imageFault W 0 [] (after W (before .image) (p .row) k) ≢ fine
 
 -- a set or a removal: its plan, the book's answer, the set after it if it is accepted, the first of so many writes from which
 -- lookups answer for that set, and the most writes
@@ -110,44 +112,88 @@ removeRequest W M t a n room = record {
   most = mostToRemove W;
 }
 
--- what a plan leads to: refused, a sound table, whose book is the one that the book's answer leaves, and the calls go on where they
--- stood, `back`; accepted, the plan waits, in place of one that waited before
-abbrev pub Outcome : ℕ → ℕ → Table → List ℕ → Request → (Table → State) → (State → Type 0) → Planned → Type 0
-Outcome W M t row r back rest (refuses n p) = Sound W M t′ × rest (back t′)
-  where
-    t′ : Table
-    t′ = record { image = t .image; book = r .booked .book; routes = t .routes }
-Outcome W M t row r back rest (writes ws) = AcceptedPlan W (r .most) p t t′ × rest (planned p t t′)
-  where
-    p : Plan
-    p = record { row = rowAfter (writes ws) row; writes = length ws; switch = r .switch (length ws) }
+-- the table after a refusal: its book is the one that the book's answer leaves
+abbrev pub refusedTable : Table → Request → Table
+refusedTable t r = record { image = t .image; book = r .booked .book; routes = t .routes }
 
-    t′ : Table
-    t′ = record { image = after W (t .image) (p .row) (length ws); book = r .booked .book; routes = r .routes }
+-- an accepted plan in its row, and the table after the whole of it
+abbrev pub planIn : List ℕ → Request → List Write → Plan
+planIn row r ws = record { row = rowAfter (writes ws) row; writes = length ws; switch = r .switch (length ws) }
+
+abbrev pub plannedTable : ℕ → Table → List ℕ → Request → List Write → Table
+plannedTable W t row r ws = record {
+  image = after W (t .image) (rowAfter (writes ws) row) (length ws);
+  book = r .booked .book;
+  routes = r .routes;
+}
+
+-- what holds of a plan: refused, the table is sound; accepted, it is an accepted plan
+abbrev pub Held : ℕ → ℕ → Table → List ℕ → Request → Planned → Type 0
+Held W M t row r (refuses n p) = Sound W M (refusedTable t r)
+Held W M t row r (writes ws) = AcceptedPlan W (r .most) (planIn row r ws) t (plannedTable W t row r ws)
+
+-- where it leads: refused, the calls go on where they stood, `back`; accepted, the plan waits, in place of one that waited before
+abbrev pub ledTo : ℕ → Table → List ℕ → Request → (Table → State) → Planned → State
+ledTo W t row r back (refuses n p) = back (refusedTable t r)
+ledTo W t row r back (writes ws) = planned (planIn row r ws) t (plannedTable W t row r ws)
 
 -- a set or a removal answers as the book does, and leads on
 abbrev pub PlanClaim : ℕ → ℕ → Table → List ℕ → (Table → State) → (State → Type 0) → Request → Type 0
-PlanClaim W M t row back rest r = (planAnswer (r .plan) ≡ r .booked .answer) × Outcome W M t row r back rest (r .plan)
+PlanClaim W M t row back rest r =
+    (planAnswer (r .plan) ≡ r .booked .answer) × Held W M t row r (r .plan) × rest (ledTo W t row r back (r .plan))
 
 -- an apply that is refused leaves the table as it was
 abbrev pub RefusedApply : ℕ → Table → List ℕ → ℕ → Type 0
 RefusedApply W t row k = applyFault W (addresses (t .image)) (tags (t .image)) row k ≢ fine → after W (t .image) row k ≡ t .image
 
+-- the table that a call finds, and the same state with another one
+abbrev pub tableIn : State → Table
+tableIn (idle t) = t
+tableIn (planned p t t′) = t
+
+abbrev pub withTable : State → Table → State
+withTable (idle t) u = idle u
+withTable (planned p t t′) u = planned p u t′
+
+-- the state that an apply of the plan that waits leads to
+abbrev pub applied : State → State
+applied (idle t) = idle t
+applied (planned p t t′) = idle t′
+
+-- after which the table is sound again
+abbrev pub AppliedClaim : ℕ → ℕ → State → Type 0
+AppliedClaim W M (idle t) = Unit {0}
+AppliedClaim W M (planned p t t′) = Sound W M t′
+
 -- the claim about the calls that are left, at each state
 abbrev pub Claim : ℕ → ℕ → List Call → State → Type 0
 Claim W M [] s = Unit {0}
-Claim W M (set a n h row ∷ cs) (idle t) = PlanClaim W M t row idle (Claim W M cs) (setRequest W M t a n h (length row))
-Claim W M (set a n h row ∷ cs) (planned p t t′) =
-    PlanClaim W M t row (λ b. planned p b t′) (Claim W M cs) (setRequest W M t a n h (length row))
-Claim W M (remove a n row ∷ cs) (idle t) = PlanClaim W M t row idle (Claim W M cs) (removeRequest W M t a n (length row))
-Claim W M (remove a n row ∷ cs) (planned p t t′) =
-    PlanClaim W M t row (λ b. planned p b t′) (Claim W M cs) (removeRequest W M t a n (length row))
-Claim W M (applyPlan ∷ cs) (idle t) = Claim W M cs (idle t)
-Claim W M (applyPlan ∷ cs) (planned p t t′) = Sound W M t′ × Claim W M cs (idle t′)
-Claim W M (applyRefused row k ∷ cs) (idle t) = RefusedApply W t row k × Claim W M cs (idle t)
-Claim W M (applyRefused row k ∷ cs) (planned p t t′) = RefusedApply W t row k × Claim W M cs (planned p t t′)
+Claim W M (set a n h row ∷ cs) s =
+    PlanClaim W M (tableIn s) row (withTable s) (Claim W M cs) (setRequest W M (tableIn s) a n h (length row))
+Claim W M (remove a n row ∷ cs) s =
+    PlanClaim W M (tableIn s) row (withTable s) (Claim W M cs) (removeRequest W M (tableIn s) a n (length row))
+Claim W M (applyPlan ∷ cs) s = AppliedClaim W M s × Claim W M cs (applied s)
+Claim W M (applyRefused row k ∷ cs) s = RefusedApply W (tableIn s) row k × Claim W M cs s
+
+-- the state that a call leads to, and that some calls do
+abbrev pub leads : ℕ → State → List ℕ → Request → State
+leads W s row r = ledTo W (tableIn s) row r (withTable s) (r .plan)
+
+abbrev pub next : ℕ → ℕ → State → Call → State
+next W M s (set a n h row) = leads W s row (setRequest W M (tableIn s) a n h (length row))
+next W M s (remove a n row) = leads W s row (removeRequest W M (tableIn s) a n (length row))
+next W M s applyPlan = applied s
+next W M s (applyRefused row k) = s
+
+abbrev pub reached : ℕ → ℕ → State → List Call → State
+reached W M s [] = s
+reached W M s (c ∷ cs) = reached W M (next W M s c) cs
+
+-- an empty table of M slots
+abbrev pub emptyTable : ℕ → State
+emptyTable M = idle (record { image = replicate M free; book = emptyBook; routes = [] })
 
 abbrev pub Demand3 : ℕ → Type 0
 Demand3 W =
     (M : ℕ) → 1 ≤ M → M ≤ maxSlots → (cs : List Call) →
-    Claim W M cs (idle (record { image = replicate M free; book = emptyBook; routes = [] }))
+    Claim W M cs (emptyTable M)

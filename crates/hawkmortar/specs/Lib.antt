@@ -1,2 +1,3 @@
 pub mod Outcomes
+pub mod Downloads
 pub mod Records

@@ -10,12 +10,15 @@ ghost use Rattle.prefixes.specs.Prefixes.{prefixesCheck, prefixesLookup};
 ghost use Rattle.tcam.specs.Slots.{slotCheck, slotLookup};
 ghost use Rattle.tcam.specs.Plans.{planSet, planRemove, planAnswer, rowAfter};
 ghost use Rattle.tcam.specs.Applies.{applyAnswer, appliedAddresses, appliedTags};
+ghost use Rattle.tcam.specs.Download.{start, past, download};
+ghost use Rattle.tcam.specs.Shown.{nextOf};
 ghost use Rattle.ranges.specs.Ranges.{rangeLookup};
 ghost use Rattle.ranges.specs.Builds.{rangesAnswer, builtStarts, builtHops};
 ghost use Rattle.dxr.specs.Dxr.{dxrLookup};
 ghost use Rattle.dxr.specs.Builds.{dxrAnswer, builtMain, builtWords};
 ghost use Rattle.records.specs.Records.{recordAt};
 ghost use Rattle.records.specs.Shown.{updateOf};
+ghost use Rattle.hawkmortar.specs.Downloads.{given, entryAfter};
 ghost use Rattle.hawkmortar.specs.Records.{placed, cells, cellsAfter};
 ghost use lib.ListN;
 use records::Record;
@@ -26,6 +29,9 @@ use route::Hop;
 use route::Length;
 use route::Prefix;
 use route::Refusal;
+use tcam::download::From;
+use tcam::download::Next;
+use tcam::download::next_entry;
 
 #[repr(C)]
 pub struct Outcome {
@@ -130,6 +136,52 @@ pub extern "C" fn hawkmortar_apply(
     ensures { λ r. ⌜ now (tags .exit) ≡ appliedTags 32 (now (addresses .entry)) (now (tags .entry)) (now (plan .entry)) k ⌝ }
 {
     of_counted(tcam::apply::apply(addresses, tags, plan, k))
+}
+
+// The first entry of a table in order of address, then length; its address, length and tag are put
+// into three cells. The value is 1, or 0 where there is none.
+#[no_mangle]
+pub extern "C" fn hawkmortar_download_first(
+    addresses: &[u32],
+    tags: &[u32],
+    entry: &mut [u32; 3],
+) -> Outcome
+    ensures { λ r. ⌜ r ≡ outcome (given (download 32 (now (addresses .entry)) (now (tags .entry)) start)) ⌝ }
+    ensures { λ r. ⌜ now (entry .exit) ≡ entryAfter (download 32 (now (addresses .entry)) (now (tags .entry)) start) (now (entry .entry)) ⌝ }
+{
+    put_next(next_entry(addresses, tags, From::Start), entry)
+}
+
+// The next entry past a prefix, which need not be there; as of the first.
+#[no_mangle]
+pub extern "C" fn hawkmortar_download_next(
+    addresses: &[u32],
+    tags: &[u32],
+    address: u32,
+    length: u32,
+    entry: &mut [u32; 3],
+) -> Outcome
+    ensures { λ r. ⌜ r ≡ outcome (given (download 32 (now (addresses .entry)) (now (tags .entry)) (past address length))) ⌝ }
+    ensures { λ r. ⌜ now (entry .exit) ≡ entryAfter (download 32 (now (addresses .entry)) (now (tags .entry)) (past address length)) (now (entry .entry)) ⌝ }
+{
+    let from = From::Past(address, Length(length));
+    put_next(next_entry(addresses, tags, from), entry)
+}
+
+// What a download answered; an entry is put into three cells.
+fn put_next(next: Next, entry: &mut [u32; 3]) -> Outcome
+    ensures { λ o. ⌜ o ≡ outcome (given (nextOf next)) ⌝ }
+    ensures { λ _. ⌜ now (entry .exit) ≡ entryAfter (nextOf next) (now (entry .entry)) ⌝ }
+{
+    match next {
+        Next::Refused(r) => refused(r),
+        Next::End => accepted(0),
+        Next::Entry(c) => {
+            let n = c.length();
+            *entry = [c.address, n.0, c.tag];
+            accepted(1)
+        }
+    }
 }
 
 // Builds the merged ranges of a list in the front of two rows; the value is how many there are.

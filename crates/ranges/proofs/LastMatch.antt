@@ -1,23 +1,24 @@
 -- In order of address, of length where addresses are equal, the longest match is the last match.
 use Prim.Native.Nat.{ℕ, _*_, _/_, _≤_}
 use mathlib.Core.Path.{_≡_, refl, _∙_}
-use mathlib.Core.Bool.{true, cond}
+use mathlib.Core.Bool.{true, false, cond}
 use mathlib.Core.List.{List, [], _∷_, List·Memᴰ·head, List·Memᴰ·tail}
 use lib.Dec.{leb}
 use native.Mathlib.Nat.{div-add-mod', le-div-iff-mul-le, le-antisymm, mul-le-mul-right}
 use native.Mathlib.Omega.{arith}
 use borrow.Author.Tests.{eqb-true, le-ltb}
 use Rattle.route.specs.Rule.{Route, span, matches, Match, nothing, best, improved, longest, hopOf, answer}
+use Rattle.route.specs.PrefixOrder.{comesBefore}
 use Rattle.route.specs.RightHop.{_∈_, Matches}
 use Rattle.route.specs.RowsOfSet.{Valid}
 use Rattle.route.proofs.Tests.{orders, byTest}
+use Rattle.route.proofs.PrefixOrder.{no-later}
 use Rattle.route.proofs.Spans.{span-pos, matches-span, aligned-longer}
 use Rattle.route.proofs.LongestMatch.{Found, finds}
 
--- r comes no later than s
-pub record InOrder (r s : Route) : Type 0 where
-  pub address : r .address ≤ s .address
-  pub length : r .address ≡ s .address → r .length ≤ s .length
+-- s does not come before r
+abbrev pub InOrder : Route → Route → Type 0
+InOrder r s = comesBefore (s .address) (s .length) (r .address) (r .length) ≡ false
 
 abbrev pub AllInOrder : List Route → Type 0
 AllInOrder [] = Unit {0}
@@ -43,9 +44,11 @@ module _ (W q : ℕ) (r s : Route) (v : Valid W r) (w : Valid W s) (c : Matches 
       omega (arith, mul-le-mul-right n m, v .aligned)
 
   pub longerLater : InOrder r s → r .length ≤ s .length
-  longerLater o = byTest (leb (r .length) (s .length))
+  longerLater o =
+      let l = no-later (r .address) (r .length) (s .address) (s .length) o in
+      byTest (leb (r .length) (s .length))
       (λ t. omega orders)
-      (λ t. absurd (omega (orders, o .length (le-antisymm (o .address) (shorterFirst (omega orders))))))
+      (λ t. absurd (omega (orders, l .1 (le-antisymm (l .0) (shorterFirst (omega orders))))))
 
 -- the hop of a match, h where there is none
 abbrev hopOr : ℕ → Match → ℕ

@@ -5,10 +5,13 @@ use mathlib.Core.Path.{_≡_, sym, _∙_, ap, ap₂, subst}
 use mathlib.Core.List.{List, [], _∷_, List·Memᴰ·tail, Memᴰ·map, Memᴰ·of-map}
 use lib.ListN.{length, getD}
 use native.Mathlib.Omega.{arith}
+use borrow.Author.Tests.{le-ltb}
 use Rattle.route.specs.Rule.{Route}
+use Rattle.route.specs.PrefixOrder
 use Rattle.route.specs.Refusals.{fine}
 use Rattle.route.specs.Lists.{routes, rowsFault}
 use Rattle.route.specs.RightHop.{_∈_}
+use Rattle.route.proofs.PrefixOrder.{by-key}
 use Rattle.route.proofs.LongestMatch.{SameSet}
 use Rattle.route.proofs.RouteSet.{RouteSet}
 use Rattle.route.proofs.Accepted.{rowsOfSet, acceptedSet}
@@ -38,13 +41,13 @@ pub wordSays : (r : Range) → r .start < 4294967296 → r .hop < 65536 → rang
 wordSays r l m = ap₂ range (wordStart (r .start) (r .hop) l m) (wordHop (r .start) (r .hop) m)
 
 -- the parts of a key
-keyAddress : (a n h : ℕ) → a < 4294967296 → n < 64 → h < 65536 → (a * 4194304 + n * 65536 + h) / 4194304 % 4294967296 ≡ a
+keyAddress : (a n h : ℕ) → a < 4294967296 → n < 64 → h < 65536 → ((a * 64 + n) * 65536 + h) / 4194304 % 4294967296 ≡ a
 keyAddress a n h l m k = omega arith
 
-keyLength : (a n h : ℕ) → n < 64 → h < 65536 → (a * 4194304 + n * 65536 + h) / 65536 % 64 ≡ n
+keyLength : (a n h : ℕ) → n < 64 → h < 65536 → ((a * 64 + n) * 65536 + h) / 65536 % 64 ≡ n
 keyLength a n h m k = omega arith
 
-keyHop : (a n h : ℕ) → h < 65536 → (a * 4194304 + n * 65536 + h) % 65536 ≡ h
+keyHop : (a n h : ℕ) → h < 65536 → ((a * 64 + n) * 65536 + h) % 65536 ≡ h
 keyHop a n h k = omega arith
 
 -- a route whose key says it
@@ -62,7 +65,11 @@ keySays r f = rw (
 
 -- keys rise as their routes are in order
 keyOrder : (j k : ℕ) → j ≤ k → k < 18014398509481984 → InOrder (routeIn j) (routeIn k)
-keyOrder j k l b = record { address = omega arith; length = λ e. omega arith }
+keyOrder j k l b =
+    let r = routeIn j in
+    let s = routeIn k in
+    by-key (s .address) (s .length) (r .address) (r .length) (omega arith) (omega arith)
+    ∙ le-ltb (PrefixOrder.keyOf (s .address) (s .length)) (PrefixOrder.keyOf (r .address) (r .length)) (omega arith)
 
 keysOrder : (ks : List ℕ) → ((k : ℕ) → k ∈ ks → k < 18014398509481984) → Ordered ks → AllInOrder (routesIn ks)
 keysOrder [] b o = tt

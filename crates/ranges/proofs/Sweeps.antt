@@ -13,6 +13,7 @@ use Rattle.route.specs.Rule.{Route, span, matches, answer}
 use Rattle.route.specs.RightHop.{_∈_}
 use Rattle.route.specs.RowsOfSet.{Valid}
 use Rattle.route.proofs.Tests.{orders, byTest, either, is-false, and-parts}
+use Rattle.route.proofs.PrefixOrder.{no-later}
 use Rattle.route.proofs.Members.{eachOf}
 use Rattle.route.proofs.Spans.{span-pos, matches-span}
 use Rattle.ranges.proofs.Spans.{endPast}
@@ -205,11 +206,12 @@ module _ (W : ℕ) (f : ℕ → ℕ) where
 -- routes in order follow each other
 follows : (W x : ℕ) (rs : List Route) → ((r : Route) → r ∈ rs → Valid W r) → Placed W rs → AllInOrder rs →
     ((r : Route) → r ∈ rs → x ≤ r .address) → Follow W x rs
-follows W x [] valid placed o above = tt
-follows W x (r ∷ rs) valid placed o above =
+follows W x [] valid placed o from = tt
+follows W x (r ∷ rs) valid placed o from =
     let first = List·Memᴰ·head refl in
-    let rest = follows W (r .address) rs (λ s m. valid s (List·Memᴰ·tail m)) (λ s m. placed s (List·Memᴰ·tail m)) (o .1) (λ s m. o .0 s m .address) in
-    (valid r first, above r first, placed r first, rest)
+    let above : (s : Route) → s ∈ rs → r .address ≤ s .address = λ s m. no-later (r .address) (r .length) (s .address) (s .length) (o .0 s m) .0 in
+    let rest = follows W (r .address) rs (λ s m. valid s (List·Memᴰ·tail m)) (λ s m. placed s (List·Memᴰ·tail m)) (o .1) above in
+    (valid r first, from r first, placed r first, rest)
 
 pub sweepMakes : (W : ℕ) (rs : List Route) → ((r : Route) → r ∈ rs → Valid W r) → Placed W rs → AllInOrder rs →
     sweptRanges W rs ≡ rangesOf W rs

@@ -3,11 +3,12 @@ use Prim.Native.Nat.{ℕ, _+_, _*_, _/_, _%_}
 use mathlib.Core.List.{List, map}
 use lib.ListN.{take, getD}
 use Rattle.route.specs.Rule.{Route, route}
+use Rattle.route.specs.PrefixOrder
 use Rattle.ranges.specs.Ranges.{Range, range}
 
--- a route's key: address, 6 bits of length, 16 bits of hop
+-- a route's key: its prefix's key, then 16 bits of hop
 abbrev pub keyOf : Route → ℕ
-keyOf r = r .address * 4194304 + r .length * 65536 + r .hop
+keyOf r = PrefixOrder.keyOf (r .address) (r .length) * 65536 + r .hop
 
 -- and the route that a key says
 abbrev pub routeIn : ℕ → Route

@@ -7,6 +7,7 @@ use route::Hop;
 use route::Length;
 use route::OptionalHop;
 use route::Prefix;
+use route::order;
 
 // A range: where it starts, and its hop.
 pub struct Range {
@@ -18,7 +19,7 @@ pub struct Range {
 pub(crate) fn key_of(p: Prefix) -> u64
     ensures { λ r. ⌜ r ≡ keyOf (routeOf p) ⌝ }
 {
-    (p.address as u64) * 4194304 + (p.length.0 as u64) * 65536 + (p.hop.0 as u64)
+    order::key_of(p.address, p.length) * 65536 + (p.hop.0 as u64)
 }
 
 // The prefix that a key says.

@@ -1,5 +1,6 @@
--- Tests and verdicts, members of a list, parts of a row.
+-- Tests and verdicts, the order of prefixes, members of a list, parts of a row.
 pub mod Tests
+pub mod PrefixOrder
 pub mod Members
 pub mod Parts
 -- Routes: spans, the longest match, which lists are accepted.

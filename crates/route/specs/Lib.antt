@@ -1,6 +1,7 @@
--- The rule and its limits, refusals and answers, lists of routes, rows that are written to, what a right answer is.
+-- The rule and its limits, the order of prefixes, refusals and answers, lists of routes, rows that are written to, what a right answer is.
 pub mod Limits
 pub mod Rule
+pub mod PrefixOrder
 pub mod Refusals
 pub mod Lists
 pub mod Rows

@@ -9,6 +9,7 @@
 // range and a main word hold a number all the same, an `OptionalHop`.
 pub mod filter;
 pub mod list;
+pub mod order;
 pub mod rule;
 
 ghost use mathlib.Core.Path.{_≡_};

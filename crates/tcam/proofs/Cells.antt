@@ -8,7 +8,7 @@ use mathlib.Core.List.{List, [], _∷_}
 use native.Mathlib.Omega.{arith}
 use lib.Dec.{leb, eqb}
 use lib.ListN.{getD}
-use borrow.Author.Tests.{eqb-true, eqb-false, eq-eqb, ne-eqb, leb-true, le-leb, lt-leb, not-true, not-false}
+use borrow.Author.Tests.{eqb-true, eqb-false, eq-eqb, ne-eqb, leb-true, le-leb, le-ltb, lt-leb, not-true, not-false}
 use Rattle.route.specs.Rule.{span}
 use Rattle.route.specs.Limits.{maxHop}
 use Rattle.route.specs.Refusals.{fine, faultIf, prefixFault, hopFault, imageRefusal}
@@ -27,6 +27,10 @@ module _ (W : ℕ) (c : Cell) where
 
     pub used-hop : 0 < hopIn c
     used-hop = let h = eqb-false (hopIn c) 0 (not-true _ (parts .2)) in omega arith
+
+    -- its prefix can be asked from
+    pub used-prefix : prefixFault W 0 (c .address) (lengthIn c) ≡ fine
+    used-prefix = rw (le-ltb W (lengthIn c) used-short, parts .1)
 
   -- without a hop only a free slot keeps S1; with one, a short enough length and a multiple of its span
   pub valid-hopless : hopIn c ≡ 0 → isFree c ≡ keepsS1 W c

@@ -3,9 +3,11 @@ pub mod Cells
 pub mod Rows
 pub mod SlotsAgree
 pub mod Sizes
--- The loops, by family: the image test, the lookup, the writes of a plan, runs of lengths and edge slots, chains.
+-- The loops, by family: the image test, the lookup, the download, the writes of a plan, runs of lengths and edge slots, chains.
 pub mod Images
 pub mod Scans
+pub mod Downloads
+pub mod DownloadPass
 pub mod Writes
 pub mod Runs
 pub mod Edges

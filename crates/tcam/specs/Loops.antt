@@ -7,10 +7,12 @@ use mathlib.Core.Option.{Option, none, some}
 use lib.Dec.{ltb, leb}
 use lib.ListN.{length, getD}
 use Rattle.route.specs.Refusals.{fine}
+use Rattle.route.specs.PrefixOrder.{keyOf}
 use Rattle.route.specs.Lists.{any}
 use Rattle.route.specs.Loops.{placesFrom}
 use Rattle.tcam.specs.Slots.{Cell, cell, cells, maxSlots, slotFault, isFree, isUpper, isLower, lengthIn, keepsS1, longerThanNearest}
 use Rattle.tcam.specs.Plans.{Write, write, firstSlot, lastSlot, ofLength, rising, falling, isSome, chain}
+use Rattle.tcam.specs.Download.{From, isToCome, nextIn, Next, entryOrEnd, nextUnless}
 use Rattle.tcam.specs.declared.image.Seen.{Seen}
 use Rattle.tcam.specs.declared.plan.Run.{Run}
 
@@ -120,3 +122,21 @@ pub record TableRows (W : ℕ) (ad ts : List ℕ) : Type 0 where
   pub equal : length ad ≡ length ts
   pub few : length ad ≤ maxSlots
   pub keeps : slotFault W 0 (cells ad ts) ≡ fine
+
+-- farther ahead than any entry: more than the key of a prefix can be
+abbrev pub farAhead : ℕ
+farAhead = 1099511627776
+
+-- the prefixes still to come are those whose keys are not below a number
+pub record IsLeast (from : From) (least : ℕ) : Type 0 where
+  pub within : least ≤ farAhead
+  pub is : (a n : ℕ) → n < 64 → isToCome from a n ≡ leb least (keyOf a n)
+
+-- how far ahead of a number a key is; where it is below the number, farther than any entry
+pub record IsAheadOf (least key r : ℕ) : Type 0 where
+  pub is : least ≤ key → least + r ≡ key
+  pub far : key < least → farAhead ≤ r
+
+-- the next entry of an image, or its refusal 7, where the prefixes still to come are known by their keys
+pub record NextByKeys (W : ℕ) (cs : List Cell) (least : ℕ) (r : Next) : Type 0 where
+  pub is : (from : From) → IsLeast from least → r ≡ nextUnless (slotFault W 0 cs) (entryOrEnd (nextIn from cs))

@@ -17,7 +17,7 @@ use route::Refusal;
 use route::Slot;
 
 // S1 of the slots from slot `from` on.
-fn rest_check(addresses: &[u32], tags: &[u32], from: Slot) -> Check
+pub(crate) fn rest_check(addresses: &[u32], tags: &[u32], from: Slot) -> Check
     requires { ⌜ (length (now addresses) ≡ length (now tags)) × (from .0 ≤ length (now addresses)) ⌝ }
     ensures { λ r. ⌜ verdictOf r ≡ slotFault 32 (from .0) (cells (drop (from .0) (now (addresses .entry))) (drop (from .0) (now (tags .entry)))) ⌝ }
 {

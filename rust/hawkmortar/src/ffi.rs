@@ -22,6 +22,12 @@ impl Outcome {
         }
     }
 
+    /// Whether the value is not 0, or the refusal.
+    #[inline]
+    pub fn flag(self) -> Result<bool, Refusal> {
+        self.count().map(|value| value != 0)
+    }
+
     /// The next hop, where 0 is none, or the refusal.
     #[inline]
     pub fn hop(self) -> Result<Option<NextHop>, Refusal> {
@@ -106,6 +112,24 @@ extern "C" {
         plan: *const u32,
         plan_len: usize,
         k: usize,
+    ) -> Outcome;
+
+    pub fn hawkmortar_download_first(
+        addresses: *const u32,
+        addresses_len: usize,
+        tags: *const u32,
+        tags_len: usize,
+        entry: *mut u32,
+    ) -> Outcome;
+
+    pub fn hawkmortar_download_next(
+        addresses: *const u32,
+        addresses_len: usize,
+        tags: *const u32,
+        tags_len: usize,
+        address: u32,
+        length: u32,
+        entry: *mut u32,
     ) -> Outcome;
 
     pub fn hawkmortar_ranges_build(

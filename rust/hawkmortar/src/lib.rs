@@ -22,13 +22,15 @@
 //!
 //! [`prefixes`] has the calls of [`list`] over one slice of entries.
 //!
-//! A [`Table`] keeps routes in slots and plans each update as a row of single writes; [`slots`] has the same calls over lent
-//! rows. A [`RangeTable`] has the routes of a list merged into ranges of addresses; [`ranges`] has its calls over lent rows. A
-//! [`DxrTable`] has these ranges by chunks of addresses, so that a lookup looks at one chunk; [`dxr`] has its calls. Updates
-//! travel as bytes: [`Records`] reads them record by record, and [`records`] has the call that reads one. Prefixes, hops and
-//! records can be parsed from the text that they are shown as; the program `records` turns lines of such text into bytes and back.
+//! A [`Table`] keeps routes in slots and plans each update as a row of single writes; a [`Download`] reads its routes out one by
+//! one while updates go on; [`slots`] has the same calls over lent rows. A [`RangeTable`] has the routes of a list merged into
+//! ranges of addresses; [`ranges`] has its calls over lent rows. A [`DxrTable`] has these ranges by chunks of addresses, so that a
+//! lookup looks at one chunk; [`dxr`] has its calls. Updates travel as bytes: [`Records`] reads them record by record, and
+//! [`records`] has the call that reads one. Prefixes, hops and records can be parsed from the text that they are shown as; the
+//! program `records` turns lines of such text into bytes and back.
 #![warn(missing_docs)]
 
+pub mod download;
 pub mod dxr;
 pub mod dxr_table;
 mod ffi;
@@ -43,6 +45,7 @@ mod refusal;
 pub mod slots;
 pub mod table;
 
+pub use download::{Download, Route};
 pub use dxr_table::DxrTable;
 pub use parse::ParseError;
 pub use prefix::Prefix;

@@ -109,3 +109,47 @@ pub fn apply(addresses: &mut [u32], tags: &mut [u32], plan: &[u32], k: usize) ->
     }
     .count()
 }
+
+/// The first entry of an image in order of address, then length: whether there is one. Its address, length and tag are put into
+/// `entry`, which is left as it was where there is none and where the call is refused. Of a prefix in several slots the first
+/// slot's tag is given. [`Download`](crate::Download) walks on from there.
+///
+/// [`Refusal::Image`] has the first slot that breaks S1, wherever it lies.
+pub fn download_first(addresses: &[u32], tags: &[u32], entry: &mut [u32; 3]) -> Result<bool, Refusal> {
+    // SAFETY: each pointer is to as many elements as the length beside it says, and `entry` is three; the call writes only those
+    // of `entry`, which no row shares
+    unsafe {
+        ffi::hawkmortar_download_first(
+            addresses.as_ptr(),
+            addresses.len(),
+            tags.as_ptr(),
+            tags.len(),
+            entry.as_mut_ptr(),
+        )
+    }
+    .flag()
+}
+
+/// The next entry past a prefix, which need not be in the image; as of [`download_first`]. After [`Refusal::Image`] there are
+/// [`Refusal::Length`] and [`Refusal::Address`] of the prefix, place 0.
+pub fn download_next(
+    addresses: &[u32],
+    tags: &[u32],
+    address: impl Into<u32>,
+    length: u32,
+    entry: &mut [u32; 3],
+) -> Result<bool, Refusal> {
+    // SAFETY: as of `download_first`
+    unsafe {
+        ffi::hawkmortar_download_next(
+            addresses.as_ptr(),
+            addresses.len(),
+            tags.as_ptr(),
+            tags.len(),
+            address.into(),
+            length,
+            entry.as_mut_ptr(),
+        )
+    }
+    .flag()
+}

@@ -1,8 +1,10 @@
-//! Slots: lookup, the image test, plans and apply.
+//! Slots: lookup, the image test, plans and apply, download.
 
 use super::number;
 use crate::measure::{Measure, Operation};
 use bench::plain;
+use hawkmortar::Download;
+use second::random::Random;
 use std::hint::black_box;
 
 pub fn all(measure: &mut dyn Measure) {
@@ -17,6 +19,10 @@ pub fn all(measure: &mut dyn Measure) {
     for slots in [64, 1024, 4096] {
         apply(measure, slots, 20_000);
     }
+    for (slots, calls) in [(64, 20_000), (1024, 1000), (4096, 250)] {
+        download_call(measure, slots, calls);
+    }
+    download_whole(measure);
 }
 
 fn operation(name: &str, slots: u32, calls: u32) -> Operation {
@@ -153,4 +159,74 @@ fn apply(measure: &mut dyn Measure, slots: u32, calls: u32) {
         ],
     );
     assert_eq!(proved, plain);
+}
+
+/// The next entry past the one in the middle of those used.
+fn download_call(measure: &mut dyn Measure, slots: u32, calls: u32) {
+    let (addresses, tags) = rows(slots);
+    let middle = slots as usize / 2;
+    let last = (addresses[middle], tags[middle] >> 16);
+    let mut entry = [0; 3];
+    let given = hawkmortar::slots::download_next(&addresses, &tags, last.0, last.1, &mut entry);
+    assert_eq!(given, Ok(true));
+    assert_eq!(
+        plain::slots::download(&addresses, &tags, Some(last)),
+        Ok(Some((entry[0], entry[2])))
+    );
+    measure.compare(
+        operation("download, one call", slots, calls).asked(1.1),
+        [
+            &mut || {
+                let (rows, last) = ((black_box(&addresses), black_box(&tags)), black_box(last));
+                let entry = black_box(&mut entry);
+                let _ = black_box(hawkmortar::slots::download_next(rows.0, rows.1, last.0, last.1, entry));
+            },
+            &mut || {
+                let rows = (black_box(&addresses), black_box(&tags));
+                let _ = black_box(plain::slots::download(rows.0, rows.1, black_box(Some(last))));
+            },
+        ],
+    );
+}
+
+/// A whole walk over 4,096 entries, 4,097 calls: the entries at random places, since the order of slots is not that of prefixes.
+fn download_whole(measure: &mut dyn Measure) {
+    const SLOTS: usize = 4096;
+    let mut random = Random::new(7);
+    let mut entries: Vec<(u32, u32)> = (0..SLOTS as u32).map(|i| (i << 20, 12 + i % 21)).collect();
+    for i in (1..SLOTS).rev() {
+        entries.swap(i, random.below(i as u64 + 1) as usize);
+    }
+    entries.sort_by_key(|&(_, length)| std::cmp::Reverse(length));
+    let (addresses, tags): (Vec<u32>, Vec<u32>) = entries.iter().map(|&(a, n)| (a, n << 16 | 1)).unzip();
+    assert_eq!(hawkmortar::slots::check(&addresses, &tags), Ok(SLOTS));
+    let proved = || {
+        let mut walk = Download::new();
+        let mut given = 0;
+        while walk.next_in(black_box(&addresses), black_box(&tags)).unwrap().is_some() {
+            given += 1;
+        }
+        given
+    };
+    let plain = || {
+        let (mut last, mut given) = (None, 0);
+        while let Some((address, tag)) = plain::slots::download(black_box(&addresses), black_box(&tags), last).unwrap()
+        {
+            last = Some((address, tag >> 16));
+            given += 1;
+        }
+        given
+    };
+    assert_eq!((proved(), plain()), (SLOTS, SLOTS));
+    measure.compare(
+        operation("download, whole", SLOTS as u32, 1),
+        [
+            &mut || {
+                black_box(proved());
+            },
+            &mut || {
+                black_box(plain());
+            },
+        ],
+    );
 }

@@ -1,4 +1,4 @@
-//! Slots: the image test, lookup, plans and their application.
+//! Slots: the image test, lookup, plans and their application, download.
 
 use super::{entry_fault, span, Fault};
 
@@ -85,6 +85,33 @@ pub fn lookup(addresses: &[u32], tags: &[u32], q: u32) -> Result<u32, Fault> {
         }
     }
     Ok(found)
+}
+
+/// A prefix as one number, in order of address, then length.
+fn key(address: u32, length: u32) -> u64 {
+    u64::from(address) << 6 | u64::from(length)
+}
+
+/// The first entry in order of address, then length, past a prefix, with its first slot's tag; refusals 8, 7 for S1, 1, 2.
+#[inline(never)]
+pub fn download(addresses: &[u32], tags: &[u32], last: Option<(u32, u32)>) -> Result<Option<(u32, u32)>, Fault> {
+    size_fault(addresses, tags)?;
+    let least = last.map_or(0, |(address, length)| key(address, length) + 1);
+    // how far ahead the nearest entry is: a key below the least one wraps round, and is farther than any
+    let (mut nearest, mut found) = (1 << 40, None);
+    for (slot, (&address, &tag)) in addresses.iter().zip(tags).enumerate() {
+        if !keeps_s1(address, tag) {
+            return Err((7, slot));
+        }
+        let ahead = key(address, tag >> 16).wrapping_sub(least);
+        if tag != 0 && ahead < nearest {
+            (nearest, found) = (ahead, Some(slot));
+        }
+    }
+    if let Some((address, length)) = last {
+        entry_fault(0, address, length, 1)?;
+    }
+    Ok(found.map(|slot| (addresses[slot], tags[slot])))
 }
 
 /// The first and the last slot of each length, and of the free slots.
