@@ -1,25 +1,30 @@
--- The download's claim: the images that its calls read keep S1, so no call is refused, for what was given stood in such an image and is a
--- valid prefix to ask from; and each prefix given leaves fewer slots ahead, so that a table which stays as it is comes to its end.
-use Prim.Native.Nat.{ℕ, suc, zero, _+_, _≤_, _<_}
-use mathlib.Core.Path.{_≡_, refl, sym, subst}
+-- The download's claim. Where images keep S1 no call is refused, for what was given stood in such an image and is a valid prefix to ask
+-- from. Each prefix given leaves less to come: fewer slots of a table that stays as it is, and fewer prefixes whatever is written; so a walk
+-- comes to its end.
+use Prim.Native.Nat.{ℕ, _+_, _-_, _*_, _^_, _≤_, _<_, zero-le}
+use mathlib.Core.Path.{_≡_, refl, sym, ap, subst}
 use mathlib.Core.Logic.{_⊎_, inl, inr}
 use mathlib.Core.Bool.{true, false, not}
 use mathlib.Core.List.{List, [], _∷_, List·Memᴰ·head, List·Memᴰ·tail, List·Memᴰ·not-nil, List·Memᴰ·cases-cons}
 use mathlib.Core.Option.{Option, none, some}
-use native.Mathlib.Numerals.{add-one}
+use native.Mathlib.Nat.{mul-le-mul-right, suc-mul}
 use native.Mathlib.Omega.{arith}
-use lib.ListN.{length, replicate}
+use lib.ListN.{length, length-replicate, replicate}
 use Rattle.route.specs.RightHop.{_∈_}
 use Rattle.route.specs.Refusals.{fine}
-use Rattle.tcam.specs.Slots.{Cell, free, isFree, lengthIn, keepsS1, maxSlots}
+use Rattle.tcam.specs.Slots.{Cell, free, isFree, lengthIn, keepsS1}
+use Rattle.tcam.specs.Tables.{addresses}
 use Rattle.tcam.specs.Plans.{ofPrefix}
 use Rattle.tcam.specs.Download.{From, start, past, isToCome, isAhead, nextIn, end, refusal, entryOrEnd, fromFault}
 use Rattle.route.proofs.Tests.{byTest, clash, and-parts, both}
-use Rattle.route.proofs.PrefixOrder.{before-trans, not-itself}
+use Rattle.route.proofs.Accepted.{prefix-good}
+use Rattle.route.proofs.PrefixOrder.{byOrder, before-trans, not-itself}
+use Rattle.claims.specs.Agreement.{Addresses}
 use Rattle.claims.specs.Download.{Image, asked, onward, walkFrom, walk, Each, isPresent, Says, Unrefused, KeepsS1, DownloadClaim}
-use Rattle.claims.proofs.Times.{All, times, times-mono, times-most}
+use Rattle.claims.proofs.Times.{All, all-copies, times, times-mono, times-most}
+use Rattle.claims.proofs.Members.{member}
 use Rattle.claims.proofs.Apply.{Keeps, cells-back, no-size-fault, no-slot-fault}
-use Rattle.claims.proofs.NextEntry.{prefix-is, asked-says, tag-present, present-valid, looked-up-keeps}
+use Rattle.claims.proofs.NextEntry.{prefix-is, asked-says, tag-present, present-address, present-valid, looked-up-keeps}
 use Rattle.claims.proofs.DownloadWalk.{later, walked}
 use Rattle.claims.proofs.Meanwhile.{stands-read, stands-empty}
 
@@ -44,21 +49,25 @@ module _ (from : From) (a n : ℕ) (t : isToCome from a n ≡ true) where
       (λ q. omega (arith, times-mono (isAhead (past a n)) (isAhead from) still-ahead (c ∷ []), fewer-ahead cs (rw q at p)))
 
 module _ (W : ℕ) where
-  -- an image that keeps S1
-  module _ (cs : Image) (h : KeepsS1 W cs) (from : From) (f : fromFault W from ≡ fine) where
-    all-keep : (ds : List Cell) → ((c : Cell) → c ∈ ds → keepsS1 W c ≡ true) → All (Keeps W) ds
-    all-keep [] k = tt
-    all-keep (d ∷ ds) k = (k d (List·Memᴰ·head refl), all-keep ds (λ c m. k c (List·Memᴰ·tail m)))
+  -- an image that keeps S1, slot by slot
+  keep-each : (cs : List Cell) → ((c : Cell) → c ∈ cs → keepsS1 W c ≡ true) → All (Keeps W) cs
+  keep-each [] k = tt
+  keep-each (c ∷ cs) k = (k c (List·Memᴰ·head refl), keep-each cs (λ d m. k d (List·Memᴰ·tail m)))
 
+  all-keep : (cs : Image) → KeepsS1 W cs → All (Keeps W) cs
+  all-keep cs h = keep-each cs (h .keeps)
+
+  -- what it answers
+  module _ (cs : Image) (h : KeepsS1 W cs) (from : From) (f : fromFault W from ≡ fine) where
     answers : asked W cs from ≡ entryOrEnd (nextIn from cs)
-    answers = rw (no-size-fault cs (h .some) (h .few), cells-back, no-slot-fault W 0 cs (all-keep cs (h .keeps)), f)
+    answers = rw (no-size-fault cs (h .some) (h .few), cells-back, no-slot-fault W 0 cs (all-keep cs h), f)
 
     -- what it gives can be asked from
     goes-on : (c : Cell) → asked W cs from ≡ entryOrEnd (some c) → isPresent (c .address) (lengthIn c) cs ≡ true
     goes-on c e = let s = subst (Says cs from) e (asked-says W cs from) in tag-present (c .address) (lengthIn c) cs (s .tagged)
 
     valid : (c : Cell) → asked W cs from ≡ entryOrEnd (some c) → fromFault W (past (c .address) (lengthIn c)) ≡ fine
-    valid c e = present-valid W (c .address) (lengthIn c) cs (all-keep cs (h .keeps)) (goes-on c e)
+    valid c e = present-valid W (c .address) (lengthIn c) cs (all-keep cs h) (goes-on c e)
 
   unrefused : (images : List Image) (from : From) → fromFault W from ≡ fine → Each (KeepsS1 W) images → Unrefused (walkFrom W from images)
   unrefused [] from f k x y m = List·Memᴰ·not-nil m
@@ -76,24 +85,64 @@ module _ (W : ℕ) where
       go none e (inr i) ih = ih from f (rw e at i)
       go (some c) e (inr i) ih = ih (past (c .address) (lengthIn c)) (valid cs here from f c e) (rw e at i)
 
-  -- a table that stays as it is
-  ends : (cs : Image) → KeepsS1 W cs → (k : ℕ) (from : From) → fromFault W from ≡ fine → times (isAhead from) cs < k → end ∈ walkFrom W from (replicate k cs)
-  ends cs h zero from f l = absurd (omega arith)
-  ends cs h (suc k) from f l = go (nextIn from cs) (answers cs h from f) (ends cs h k)
+  -- each prefix of an image that is given leaves less to come, by some measure
+  abbrev Falls : (From → ℕ) → Image → Type 0
+  Falls μ cs = (from : From) → fromFault W from ≡ fine → (a n : ℕ) → isToCome from a n ≡ true → isPresent a n cs ≡ true → μ (past a n) < μ from
+
+  -- so a walk of more calls than that comes to its end
+  comes-to-end : (μ : From → ℕ) (images : List Image) (from : From) → fromFault W from ≡ fine → Each (KeepsS1 W) images → Each (Falls μ) images
+      → μ from < length images → end ∈ walkFrom W from images
+  comes-to-end μ [] from f k d l = absurd (omega arith)
+  comes-to-end μ (cs ∷ images) from f k d l = go (nextIn from cs) (answers cs here from f) (λ g h. comes-to-end μ images g h (later k) (later d))
     where
+      here : KeepsS1 W cs
+      here = k cs (List·Memᴰ·head refl)
+
       go : (o : Option Cell) → asked W cs from ≡ entryOrEnd o
-          → ((g : From) → fromFault W g ≡ fine → times (isAhead g) cs < k → end ∈ walkFrom W g (replicate k cs))
-          → end ∈ asked W cs from ∷ walkFrom W (onward from (asked W cs from)) (replicate k cs)
+          → ((g : From) → fromFault W g ≡ fine → μ g < length images → end ∈ walkFrom W g images)
+          → end ∈ asked W cs from ∷ walkFrom W (onward from (asked W cs from)) images
       go none e ih = List·Memᴰ·head (sym e)
       go (some c) e ih =
           let s = subst (Says cs from) e (asked-says W cs from) in
-          let less = fewer-ahead from (c .address) (lengthIn c) (s .ahead) cs (goes-on cs h from f c e) in
-          let m : end ∈ walkFrom W (onward from (asked W cs from)) (replicate k cs) =
-          rw e (ih (past (c .address) (lengthIn c)) (valid cs h from f c e) (omega arith)) in
+          let less = d cs (List·Memᴰ·head refl) from f (c .address) (lengthIn c) (s .ahead) (goes-on cs here from f c e) in
+          let m : end ∈ walkFrom W (onward from (asked W cs from)) images =
+          rw e (ih (past (c .address) (lengthIn c)) (valid cs here from f c e) (omega arith)) in
           List·Memᴰ·tail m
 
+  -- a table that stays as it is: the slots ahead
   still : (cs : Image) → KeepsS1 W cs → end ∈ walk W (replicate (length cs + 1) cs)
-  still cs h = rw add-one (ends cs h (suc (length cs)) start refl (omega (arith, times-most (isAhead start) cs)))
+  still cs h = comes-to-end (λ g. times (isAhead g) cs) (replicate (length cs + 1) cs) start refl
+      (copies (KeepsS1 W) h) (copies (Falls (λ g. times (isAhead g) cs)) (λ from f a n t p. fewer-ahead from a n t cs p))
+      (omega (arith, times-most (isAhead start) cs, length-replicate (length cs + 1) cs))
+    where
+      copies : (P : Image → Type 0) → P cs → Each P (replicate (length cs + 1) cs)
+      copies P p x m = member P (all-copies P (length cs + 1) cs p) m
+
+  -- whatever is written: the prefixes of at most W bits, numbered as they come
+  abbrev number : ℕ → ℕ → ℕ
+  number a n = a * (W + 1) + n
+
+  number-below : (a n b : ℕ) → n ≤ W → a < b → number a n < b * (W + 1)
+  number-below a n b i l = omega (arith, mul-le-mul-right (W + 1) l, suc-mul a (W + 1))
+
+  -- how many are past
+  abbrev behind : From → ℕ
+  behind start = 0
+  behind (past a n) = number a n + 1
+
+  moves-on : (from : From) (a n : ℕ) → fromFault W from ≡ fine → isToCome from a n ≡ true → behind from ≤ number a n
+  moves-on start a n f t = zero-le
+  moves-on (past b m) a n f t = byOrder b m a n t
+      (λ l. omega (arith, number-below b m a (prefix-good W 0 b m f .0) l))
+      (λ e l. omega (arith, ap (λ (x : ℕ). x * (W + 1)) e))
+
+  ends : (images : List Image) → Each (KeepsS1 W) images → Each (λ cs. Addresses W (addresses cs)) images → 2 ^ W * (W + 1) < length images
+      → end ∈ walk W images
+  ends images k p l = comes-to-end (λ g. 2 ^ W * (W + 1) - behind g) images start refl k
+      (λ cs m from f a n t here. let v = present-valid W a n cs (all-keep cs (k cs m)) here in
+      let j = number-below a n (2 ^ W) (prefix-good W 0 a n v .0) (p cs m a (present-address a n cs here)) in
+      omega (arith, moves-on from a n f t))
+      (omega arith)
 
 pub downloadClaim : (W : ℕ) → DownloadClaim W
 downloadClaim W = record {
@@ -102,6 +151,7 @@ downloadClaim W = record {
   keeping = λ images k. unrefused W images start refl k;
   cuts = λ p before next k c. looked-up-keeps W _ 0 (c .looksUp 0);
   still = still W;
+  ends = ends W;
   meanwhile = λ M i j es.
       let s = stands-read W M i j es (record { image = replicate M free; left = [] }) (stands-empty W M i j) in
       let k : Each (KeepsS1 W) _ = λ cs m. s cs m .1 in

@@ -2,26 +2,23 @@
 --
 -- Each answer is right of its own image, and from where it asks only moves on. So a prefix that is no longer to come is never given; one
 -- that is present is not passed over; and where the end is answered nothing that is present was left.
-use Prim.Native.Nat.{ℕ, _+_, _*_, _^_, _≤_, _<_, zero-le}
-use mathlib.Core.Path.{_≡_, refl, ap}
+use Prim.Native.Nat.{ℕ, _+_}
+use mathlib.Core.Path.{_≡_, refl}
 use mathlib.Core.Logic.{_⊎_, inl, inr}
 use mathlib.Core.Bool.{true, false}
 use mathlib.Core.List.{List, [], _∷_, List·Memᴰ·head, List·Memᴰ·tail, List·Memᴰ·not-nil, List·Memᴰ·cases-cons}
-use native.Mathlib.Nat.{mul-le-mul-right, suc-mul}
 use native.Mathlib.Omega.{arith}
 use lib.Dec.{eqb}
 use borrow.Author.Tests.{eqb-true, eq-eqb}
 use Rattle.route.specs.PrefixOrder.{comesBefore}
 use Rattle.route.specs.RightHop.{_∈_}
-use Rattle.tcam.specs.Tables.{addresses}
 use Rattle.tcam.specs.Book.{countIf}
 use Rattle.route.proofs.Tests.{byTest, clash, both, not-both}
-use Rattle.claims.specs.Agreement.{Addresses}
 use Rattle.tcam.specs.Download.{From, start, past, isToCome, Next, entry, end, refusal}
-use Rattle.claims.specs.Download.{Image, asked, onward, walkFrom, Each, isPresent, Says, Rises, isGiven, timesGiven, entriesIn, Walked}
-use Rattle.route.proofs.PrefixOrder.{byOrder, not-itself, neither-before}
+use Rattle.claims.specs.Download.{Image, asked, onward, walkFrom, Each, isPresent, Says, Rises, isGiven, timesGiven, Walked}
+use Rattle.route.proofs.PrefixOrder.{not-itself, neither-before}
 use Rattle.tcam.proofs.Downloads.{stays-behind}
-use Rattle.claims.proofs.NextEntry.{asked-says, tag-present, present-address, given-short}
+use Rattle.claims.proofs.NextEntry.{asked-says, tag-present}
 
 -- the images of the later calls
 pub later : {P : Image → Type 0} {cs : Image} {images : List Image} → Each P (cs ∷ images) → Each P images
@@ -84,48 +81,9 @@ module _ (W : ℕ) where
         go end s ih = omega (arith, ih from)
         go (refusal x y) s ih = omega (arith, ih from)
 
-  -- the prefixes of at most W bits, numbered as they come
-  abbrev number : ℕ → ℕ → ℕ
-  number a n = a * (W + 1) + n
-
-  number-below : (a n b : ℕ) → n ≤ W → a < b → number a n < b * (W + 1)
-  number-below a n b i l = omega (arith, mul-le-mul-right (W + 1) l, suc-mul a (W + 1))
-
-  -- how many are past, and that a length is at most W
-  abbrev behind : From → ℕ
-  behind start = 0
-  behind (past a n) = number a n + 1
-
-  abbrev Short : From → Type 0
-  Short start = Unit {0}
-  Short (past a n) = n ≤ W
-
-  moves-on : (from : From) (a n : ℕ) → Short from → isToCome from a n ≡ true → behind from ≤ number a n
-  moves-on start a n s t = zero-le
-  moves-on (past b m) a n s t = byOrder b m a n t
-      (λ l. omega (arith, number-below b m a s l))
-      (λ e l. omega (arith, ap (λ (x : ℕ). x * (W + 1)) e))
-
-  few : (images : List Image) (from : From) → Short from → behind from ≤ 2 ^ W * (W + 1) → Each (λ cs. Addresses W (addresses cs)) images
-      → entriesIn (walkFrom W from images) + behind from ≤ 2 ^ W * (W + 1)
-  few [] from s l p = omega arith
-  few (cs ∷ images) from s l p = go (asked W cs from) refl (asked-says W cs from) (λ f s l. few images f s l (later p))
-    where
-      go : (r : Next) → asked W cs from ≡ r → Says cs from r
-          → ((f : From) → Short f → behind f ≤ 2 ^ W * (W + 1) → entriesIn (walkFrom W f images) + behind f ≤ 2 ^ W * (W + 1))
-          → entriesIn (r ∷ walkFrom W (onward from r) images) + behind from ≤ 2 ^ W * (W + 1)
-      go (entry a n t) e q ih =
-          let here = tag-present a n cs (q .tagged) in
-          let i = given-short W cs from a n t e here in
-          let j = number-below a n (2 ^ W) i (p cs (List·Memᴰ·head refl) a (present-address a n cs here)) in
-          omega (arith, ih (past a n) i (omega arith), moves-on from a n s (q .ahead))
-      go end e q ih = ih from s l
-      go (refusal x y) e q ih = ih from s l
-
   pub walked : (images : List Image) → Walked W images
   walked images = record {
     rises = rises images start;
     once = λ f a n p. once a n images start f p refl;
     never = λ a n p. never a n images start p;
-    few = λ p. omega (arith, few images start tt zero-le p);
   }

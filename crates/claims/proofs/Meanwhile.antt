@@ -4,12 +4,11 @@
 -- By induction over the events. A single write leads from one cut to the next. A set or a removal that finds no plan begun, or one made to
 -- its end, is a call of the sequence; one that finds a plan half made is refused, for such a table breaks a rule. So demand 3 says of each
 -- image that lookups accept it, and it keeps S1.
-use Prim.Native.Nat.{ℕ, suc, zero, _+_, _≤_, _<_, zero-le}
+use Prim.Native.Nat.{ℕ, suc, _+_, _≤_, _<_, zero-le}
 use mathlib.Core.Path.{_≡_, refl, sym, ap, subst, _∙_}
 use mathlib.Core.Logic.{_≢_, _⊎_, inl, inr}
-use mathlib.Core.Bool.{true, false}
 use mathlib.Core.List.{List, [], _∷_, _++_, List·Memᴰ·not-nil, List·Memᴰ·cases-cons}
-use native.Mathlib.Nat.{le-refl, le-of-lt}
+use native.Mathlib.Nat.{le-refl}
 use native.Mathlib.Omega.{arith}
 use lib.Dec.{leb, ltb}
 use lib.ListN.{length, length-take, length-replicate, replicate, take, drop, take-append-drop, drop-of-length-le}
@@ -20,13 +19,13 @@ use Rattle.route.specs.Refusals.{Verdict, fine, fault, _then_}
 use Rattle.tcam.specs.Slots.{Cell, free, maxSlots, sizeFault, imageFault, tableFault}
 use Rattle.tcam.specs.Tables.{addresses, tags}
 use Rattle.tcam.specs.Plans
-use Rattle.tcam.specs.Plans.{Write, Planned, refuses, writes, ifFine, planSet, planRemove, rowAfter}
+use Rattle.tcam.specs.Plans.{Write, Planned, refuses, writes, ifFine, planSet, planRemove}
 use Rattle.tcam.specs.Applies.{written, writesIn, applyFault}
 use Rattle.route.proofs.Tests.{byTest, inTurn, answered}
 use Rattle.tcam.proofs.Writes.{read-back}
 use Rattle.claims.specs.Sequence.{Call, set, remove, applyPlan, applyRefused, Table, Plan, State, idle, planned, Request, AcceptedPlan, after}
 use Rattle.claims.specs.Sequence.{refusedTable, Held, Claim, tableIn, withTable, applied, ledTo, leads, next, reached, emptyTable, setRequest, removeRequest}
-use Rattle.claims.specs.Download.{Image, Each, KeepsS1, Event, update, write, read, Now, afterPlan, afterCall, afterWrite, imagesRead, cutOf, writesOf, InSequence}
+use Rattle.claims.specs.Download.{Image, KeepsS1, Event, update, write, read, Now, afterPlan, afterCall, afterWrite, imagesRead, cutOf, writesOf, InSequence}
 use Rattle.claims.proofs.Apply.{Keeps, cells-back, stored-rows}
 use Rattle.claims.proofs.Times.{all-copies}
 use Rattle.claims.proofs.Members.{member}

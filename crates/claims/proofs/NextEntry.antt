@@ -1,6 +1,6 @@
 -- A call's answer is right of its image: the next entry is the least that is still to come, with its first slot's tag, or there is none.
 -- What is given stands in the image, so it is a valid prefix where the image keeps S1.
-use Prim.Native.Nat.{ℕ, _+_, _≤_}
+use Prim.Native.Nat.{ℕ, _+_}
 use mathlib.Core.Path.{_≡_, refl, sym}
 use mathlib.Core.Bool.{Bool, true, false, cond, not}
 use mathlib.Core.List.{[], _∷_, List·Memᴰ·head, List·Memᴰ·tail}
@@ -16,13 +16,12 @@ use Rattle.tcam.specs.Plans.{ofPrefix}
 use Rattle.tcam.specs.Tables.{addresses, tags}
 use Rattle.route.proofs.Tests.{byTest, clash, is-false, and-parts, all-three, inTurn, passed, answered}
 use Rattle.route.proofs.PrefixOrder.{before-trans, not-itself, before-from}
-use Rattle.route.proofs.Accepted.{prefix-good}
 use Rattle.tcam.proofs.Sizes.{sized}
 use Rattle.claims.specs.Sequence.{lookedUp}
 use Rattle.claims.proofs.Times.{All}
 use Rattle.claims.proofs.Members.{member}
 use Rattle.claims.proofs.Apply.{Keeps, cells-back}
-use Rattle.tcam.specs.Download.{From, isToCome, isAhead, sooner, nextIn, Next, entry, entryOrEnd, nextUnless, fromFault}
+use Rattle.tcam.specs.Download.{From, isToCome, isAhead, sooner, nextIn, entryOrEnd, nextUnless, fromFault}
 use Rattle.claims.specs.Download.{Image, asked, isPresent, firstTag, IsNext, Says, KeepsS1}
 use Rattle.tcam.proofs.Cells.{used-prefix}
 
@@ -121,17 +120,6 @@ module _ (W : ℕ) where
   fine-keeps i (c ∷ cs) f =
       let t = inTurn (faultIf (not (keepsS1 W c)) imageRefusal i) _ f in
       (not-false _ (passed _ _ _ (t .0)), fine-keeps (i + 1) cs (t .1))
-
-  -- an entry is given from an image without a fault
-  pub given-short : (cs : Image) (from : From) (a n t : ℕ) → asked W cs from ≡ entry a n t → isPresent a n cs ≡ true → n ≤ W
-  given-short cs from a n t e p =
-      let f = no-fault (sizeFault (addresses cs) (tags cs) then slotFault W 0 (cells (addresses cs) (tags cs)) then fromFault W from) _ e in
-      let g = inTurn (slotFault W 0 (cells (addresses cs) (tags cs))) _ (inTurn (sizeFault (addresses cs) (tags cs)) _ f .1) .0 in
-      prefix-good W 0 a n (present-valid a n cs (fine-keeps 0 cs (rw cells-back at g)) p) .0
-    where
-      no-fault : (v : Verdict) (r : Next) → nextUnless v r ≡ entry a n t → v ≡ fine
-      no-fault fine r e = refl
-      no-fault (fault x y) r e = cc
 
   -- a table that lookups accept
   pub looked-up-keeps : (cs : Image) (q : ℕ) {v : ℕ} → lookedUp W cs q ≡ value v → KeepsS1 W cs

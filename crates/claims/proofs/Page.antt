@@ -1,6 +1,7 @@
 -- The page of all claims, with the proof of each.
 use Rattle.history.proofs.Whole.{wholeReport}
 use Rattle.route.proofs.Determined.{check-determined, counted-determined, found-determined}
+use Rattle.tcam.proofs.Determined.{next-determined}
 use Rattle.records.proofs.Determined.{step-determined}
 use Rattle.history.proofs.Determined.{filled-determined}
 use Rattle.claims.specs.Claims.{Claims}
@@ -34,6 +35,7 @@ claims = record {
     checks = check-determined;
     counts = counted-determined;
     lookups = found-determined;
+    downloads = next-determined;
     readings = step-determined;
     parts = filled-determined;
   };

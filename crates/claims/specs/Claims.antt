@@ -33,7 +33,7 @@ pub record Claims : Type 0 where
   -- least prefix ahead, with its first slot's tag. Over any images the list rises, a prefix present in every image of a finished walk is
   -- given exactly once, and one present in none never. With the calls of demand 3 and single writes of their plans between the calls,
   -- every image is one that demand 3 speaks of and keeps S1, and no call is refused. A table that stays as it is takes at most a call more
-  -- than it has slots, and whatever is written a walk gives no more entries than there are prefixes.
+  -- than it has slots, and whatever is written a walk ends.
   pub download : (W : ℕ) → DownloadClaim W
   -- The board cases a to j come out as they stand on the board.
   pub board : got ≡ expected

@@ -5,7 +5,7 @@
 -- last; the walk is finished once a call is answered by the end. The claim holds of all images whatever. It is said once more of a table
 -- that starts empty, while the calls of demand 3's sequences go on, with single writes of the plan that waits and calls of the download
 -- between them: there each image is one that demand 3 speaks of, each keeps S1, and no call is refused.
-use Prim.Native.Nat.{ℕ, _+_, _*_, _^_, _≤_}
+use Prim.Native.Nat.{ℕ, _+_, _*_, _^_, _≤_, _<_}
 use mathlib.Core.Path.{_≡_}
 use mathlib.Core.Bool.{Bool, true, false, cond, _&&_}
 use mathlib.Core.List.{List, [], _∷_}
@@ -76,7 +76,7 @@ Rises from (entry a n t ∷ rs) = (isToCome from a n ≡ true) × Rises (past a 
 Rises from (end ∷ rs) = Rises from rs
 Rises from (refusal number place ∷ rs) = Rises from rs
 
--- how often a prefix is given, and how many entries are
+-- how often a prefix is given
 abbrev pub isGiven : ℕ → ℕ → Next → Bool
 isGiven a n (entry b m t) = eqb b a && eqb m n
 isGiven a n end = false
@@ -86,19 +86,11 @@ abbrev pub timesGiven : ℕ → ℕ → List Next → ℕ
 timesGiven a n [] = 0
 timesGiven a n (r ∷ rs) = countIf (isGiven a n r) + timesGiven a n rs
 
-abbrev pub entriesIn : List Next → ℕ
-entriesIn [] = 0
-entriesIn (entry a n t ∷ rs) = 1 + entriesIn rs
-entriesIn (end ∷ rs) = entriesIn rs
-entriesIn (refusal number place ∷ rs) = entriesIn rs
-
--- the list rises; a prefix present in every image of a finished walk is given exactly once; one present in none is never given; and
--- however long the walk goes on, it gives at most an entry for each address of W bits and each length
+-- the list rises; a prefix present in every image of a finished walk is given exactly once; and one present in none is never given
 pub record Walked (W : ℕ) (images : List Image) : Type 0 where
   pub rises : Rises start (walk W images)
   pub once : end ∈ walk W images → (a n : ℕ) → Each (λ cs. isPresent a n cs ≡ true) images → timesGiven a n (walk W images) ≡ 1
   pub never : (a n : ℕ) → Each (λ cs. isPresent a n cs ≡ false) images → timesGiven a n (walk W images) ≡ 0
-  pub few : Each (λ cs. Addresses W (addresses cs)) images → entriesIn (walk W images) ≤ 2 ^ W * (W + 1)
 
 -- no call is refused
 abbrev pub Unrefused : List Next → Type 0
@@ -169,14 +161,21 @@ pub record WalkedMeanwhile (W M : ℕ) (images : List Image) : Type 0 where
   pub answered : Unrefused (walk W images)
   pub walked : Walked W images
 
--- each call answers right; any walk; any images that keep S1 will do, and each cut that demand 3 speaks of does; a table that stays as it
--- is takes at most a call more than it has slots; and the updates that go on
 pub record DownloadClaim (W : ℕ) : Type 0 where
+  -- each call gives the least prefix ahead with its first slot's tag, or the end where none is ahead
   pub right : (cs : Image) (from : From) → Says cs from (asked W cs from)
+  -- of any walk: it rises, and gives what is present in every image once and what is present in none never
   pub walks : (images : List Image) → Walked W images
+  -- any images that keep S1 will do, and each cut that demand 3 speaks of does
   pub keeping : (images : List Image) → Each (KeepsS1 W) images → Unrefused (walk W images)
   pub cuts : (p : Plan) (before next : Table) (k : ℕ) → Cut W p before next k → KeepsS1 W (after W (before .image) (p .row) k)
+  -- a table that stays as it is takes at most a call more than it has slots
   pub still : (cs : Image) → KeepsS1 W cs → end ∈ walk W (replicate (length cs + 1) cs)
+  -- whatever is written, a walk ends, once it has more calls than there are addresses of W bits with a length of 0 to W
+  pub ends :
+      (images : List Image) → Each (KeepsS1 W) images → Each (λ cs. Addresses W (addresses cs)) images →
+      2 ^ W * (W + 1) < length images → end ∈ walk W images
+  -- while the updates of demand 3 go on, from an empty table
   pub meanwhile :
       (M : ℕ) → 1 ≤ M → M ≤ maxSlots → (es : List Event) →
       WalkedMeanwhile W M (imagesRead W es (record { image = replicate M free; left = [] }))

@@ -2,19 +2,19 @@
 use Prim.Native.Nat.{ℕ, _+_, _%_, _^_, _≤_, _<_, zero-le}
 use mathlib.Core.Path.{_≡_, refl, sym, _∙_}
 use mathlib.Core.Logic.{_≢_}
-use mathlib.Core.Bool.{Bool, true, false, not, _&&_}
+use mathlib.Core.Bool.{true, false, _&&_}
 use mathlib.Core.List.{List}
 use mathlib.Core.Option.{Option, none, some}
 use native.Mathlib.Omega.{arith}
 use lib.Dec.{ltb, leb}
 use lib.ListN.{length}
-use borrow.Author.Tests.{ltb-true, ltb-false, leb-true, leb-false, lt-ltb, le-ltb, le-leb, lt-leb, not-true}
+use borrow.Author.Tests.{ltb-true, ltb-false, leb-true, leb-false, lt-ltb, le-ltb, le-leb, lt-leb}
 use Rattle.route.specs.PrefixOrder.{keyOf}
 use Rattle.route.specs.Refusals.{Verdict, fine, fault, _then_, imageRefusal}
 use Rattle.tcam.specs.Slots.{Cell, cells, isFree, lengthIn, keepsS1, sizeFault, slotFault}
 use Rattle.tcam.specs.Download.{From, start, past, isToCome, isAhead, nextIn, Next, end, refusal, entryOrEnd, nextUnless, fromFault, download}
 use Rattle.tcam.specs.Loops.{cellAt, farAhead, IsLeast, IsAheadOf}
-use Rattle.route.proofs.Tests.{byTest, clash, and-parts}
+use Rattle.route.proofs.Tests.{byTest}
 use Rattle.route.proofs.Accepted.{prefix-good}
 use Rattle.route.proofs.PrefixOrder.{by-key}
 use Rattle.tcam.proofs.Cells.{used-short}

@@ -12,6 +12,8 @@ pub mod Writes
 pub mod Runs
 pub mod Edges
 pub mod Chains
+-- The code's answers.
+pub mod Determined
 -- What a plan answers and leaves, that it can be applied, and the most writes that it has.
 pub mod Planned
 pub mod Whole

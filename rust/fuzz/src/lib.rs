@@ -19,7 +19,8 @@ pub fn one(data: &[u8]) -> Calls {
     match draw.below(128) {
         0..=15 => lists::any(&mut draw),
         16..=31 => lists::agreeing(&mut draw),
-        32..=63 => tables::sequence(draw),
+        32..=55 => tables::sequence(draw),
+        56..=63 => tables::download(draw),
         64..=79 => tables::image(&mut draw),
         80..=95 => tables::ranges(&mut draw),
         96..=111 => tables::chunk(&mut draw),

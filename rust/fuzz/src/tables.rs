@@ -1,6 +1,7 @@
-//! Scenarios of slots, of lent ranges and chunks, and of record bytes.
+//! Scenarios of slots and their download, of lent ranges and chunks, and of record bytes.
 
 use second::both;
+use second::both::download::{self, Between};
 use second::both::records::{bytes_of, follow, random_records};
 use second::both::sequence::{supply, Run, Seen};
 use second::both::{chunk, remove, set, Update};
@@ -10,6 +11,9 @@ use second::slots::Image;
 
 /// The most updates of a sequence.
 const UPDATES: usize = 60;
+
+/// The walks over a table.
+const WALKS: usize = 3;
 
 /// A sequence of updates from an empty table or one that has entries; every cut of every plan is looked up.
 pub fn sequence(mut draw: Random) {
@@ -24,7 +28,21 @@ pub fn sequence(mut draw: Random) {
     run.calls_of_bytes(UPDATES);
 }
 
-/// An image, good, damaged or of any numbers: its test, lookups, plans of any room, and applies of plans that may be damaged.
+/// Walks of the download over a table that is updated meanwhile.
+pub fn download(mut draw: Random) {
+    let most = draw.pick(&[3, 8, 20]);
+    let slots = 1 + draw.below(most) as usize;
+    let prefixes = supply(&mut Random::new(draw.below(65_536)), slots);
+    let updates = draw.below(2 * slots as u64) as usize;
+    let walks = [(); WALKS].map(|_| Between::any(&mut draw));
+    let mut seen = download::Seen::default();
+    let mut run = download::Run::new(draw, prefixes, slots, &mut seen);
+    run.updates(updates);
+    walks.into_iter().for_each(|between| run.walk(between));
+}
+
+/// An image, good, damaged or of any numbers: its test, lookups, downloads, plans of any room, and applies of plans that may be
+/// damaged.
 pub fn image(draw: &mut Random) {
     let mut image = if draw.one_in(4) {
         any_image(draw)
@@ -39,6 +57,7 @@ pub fn image(draw: &mut Random) {
         let update = update(draw, &image);
         let keys = [update.address, draw.number() as u32];
         both::lookups(&image, &keys);
+        download::nexts(&image, &[None, Some((update.address, update.length))]);
         let room = draw.below(58) as usize;
         let plan = both::plan(&image, update, room).unwrap_or_default();
         apply(draw, &mut image, plan);

@@ -1,7 +1,7 @@
-//! The lesson of docs/CLASS.md: four beliefs about route tables and five errors, each with what the tables really do.
-//! `make class` prints it.
+//! The lesson of docs/CLASS.md: four beliefs about route tables and five errors, each with what the tables really do, and a table
+//! that is read out while it is updated. `make class` prints it.
 
-use hawkmortar::{dxr, list, slots, DxrTable, NextHop, Plan, Prefix, RangeTable, Refusal, Table};
+use hawkmortar::{dxr, list, slots, Download, DxrTable, Entry, NextHop, Plan, Prefix, RangeTable, Refusal, Table};
 use std::fmt::Write as _;
 use std::net::Ipv4Addr;
 
@@ -35,6 +35,9 @@ pub fn lesson() -> Result<String, Refusal> {
         default_route_matches_all,
         chunk_starts_at_0,
         hop_0_is_refused,
+        locked_reader,
+        download_while_updates_go_on,
+        reader_by_slot,
     ];
     for part in parts {
         part(&mut page)?;
@@ -189,6 +192,84 @@ fn hop_0_is_refused(page: &mut String) -> Result<(), Refusal> {
         line(page, &format!("0.0.0.0/0 with hop 0: {refusal}"));
     }
     Tables::of(&[("128.0.0.0/1", 1)])?.ask(page, "0.0.0.0")
+}
+
+/// 10. A reader that holds a lock from its first slot to its last, while an update comes with each entry that it reads.
+fn locked_reader(page: &mut String) -> Result<(), Refusal> {
+    line(page, "10. A reader that locks the table");
+    let mut table = board()?;
+    let (q, mut waiting, mut history) = ("10.20.4.10", Vec::new(), Vec::new());
+    let seen = |page: &mut String, what: &str, table: &Table, history: &[String]| {
+        let history = match history {
+            [] => "empty".to_string(),
+            [.., last] => format!("{} lines, the last {last}", history.len()),
+        };
+        let answer = found(q, table.lookup(address(q)));
+        line(page, &format!("{what}; {answer}; history {history}"));
+    };
+    for (entry, number) in table.iter().zip(21..) {
+        waiting.push(("10.20.4.0/24", number));
+        let what = format!("slot {} is read, set 10.20.4.0/24 {number} waits", entry.slot);
+        seen(page, &what, &table, &history);
+    }
+    for (text, number) in waiting {
+        let writes = table.set(prefix(text), hop(number))?;
+        history.push(format!("set {text} {number}, writes {writes}"));
+    }
+    seen(page, "the lock is given back", &table, &history);
+    Ok(())
+}
+
+/// 11. A download of the board's table: a prefix is removed before the walk comes to it, one moves, one is added behind its place.
+fn download_while_updates_go_on(page: &mut String) -> Result<(), Refusal> {
+    line(page, "11. A download while updates go on");
+    let mut table = board()?;
+    let mut walk = Download::new();
+    call(page, &mut walk, &table)?;
+    call(page, &mut walk, &table)?;
+    let plan = table.plan_remove(prefix("10.20.4.0/24"))?;
+    for k in 1..=plan.len() {
+        table.apply(&plan, k)?;
+        line(page, &format!("remove 10.20.4.0/24, write {k}: {}", written(&plan, k)));
+        call(page, &mut walk, &table)?;
+    }
+    let plan = table.plan_set(prefix("10.10.0.0/16"), hop(5))?;
+    table.apply(&plan, plan.len())?;
+    line(page, &format!("set 10.10.0.0/16 5, write 1: {}", written(&plan, 1)));
+    call(page, &mut walk, &table)
+}
+
+/// A step of a walk, and the slots as it saw them.
+fn call(page: &mut String, walk: &mut Download, table: &Table) -> Result<(), Refusal> {
+    let given = match walk.next(table)? {
+        Some(route) => route.to_string(),
+        None => "the end".to_string(),
+    };
+    let slots: Vec<String> = (0..table.slots()).map(|slot| in_slot(table, slot)).collect();
+    line(page, &format!("{given}, of {}", slots.join(" ")));
+    Ok(())
+}
+
+/// 12. A reader that goes by slot, with a removal between two of its steps, and with a set.
+fn reader_by_slot(page: &mut String) -> Result<(), Refusal> {
+    line(page, "12. The same table read by slot");
+    let remove = board()?.plan_remove(prefix("10.20.4.0/24"))?;
+    let set = board()?.plan_set(prefix("10.20.4.8/31"), hop(9))?;
+    for (name, plan) in [("remove 10.20.4.0/24", remove), ("set 10.20.4.8/31 9", set)] {
+        let mut table = board()?;
+        let first: Vec<String> = (0..2).map(|slot| in_slot(&table, slot)).collect();
+        let writes = table.apply(&plan, plan.len())?;
+        let rest: Vec<String> = (2..table.slots()).map(|slot| in_slot(&table, slot)).collect();
+        let (first, rest) = (first.join(" "), rest.join(" "));
+        line(page, &format!("{first}; {name}, {writes} writes; {rest}"));
+    }
+    Ok(())
+}
+
+/// The prefix in a slot.
+fn in_slot(table: &Table, slot: usize) -> String {
+    let entry = table.iter().find(|entry: &Entry| entry.slot == slot);
+    entry.map_or("-".to_string(), |entry| entry.prefix.to_string())
 }
 
 /// One set of routes as a list, in slots, as ranges and as a DXR table.

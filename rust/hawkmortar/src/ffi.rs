@@ -22,10 +22,14 @@ impl Outcome {
         }
     }
 
-    /// Whether the value is not 0, or the refusal.
+    /// Whether the value is 1, where 0 is the other one, or the refusal.
     #[inline]
     pub fn flag(self) -> Result<bool, Refusal> {
-        self.count().map(|value| value != 0)
+        self.count().map(|value| match value {
+            0 => false,
+            1 => true,
+            _ => unreachable!("the value is 0 or 1"),
+        })
     }
 
     /// The next hop, where 0 is none, or the refusal.

@@ -6,6 +6,7 @@
 
 pub mod book;
 pub mod both;
+pub mod download;
 pub mod dxr;
 pub mod list;
 pub mod program;

@@ -28,7 +28,7 @@ impl Image {
 
 /// What a slot holds.
 #[derive(Clone, Copy, PartialEq, Eq, Debug)]
-enum Cell {
+pub(crate) enum Cell {
     Free,
     Entry {
         address: u32,
@@ -65,7 +65,7 @@ fn cells(addresses: &[u32], tags: &[u32]) -> Result<Vec<Cell>, Fault> {
 }
 
 /// The slots with entries, each with its address and length, from slot 0 upward.
-fn entries(cells: &[Cell]) -> impl Iterator<Item = (usize, u32, u32)> + '_ {
+pub(crate) fn entries(cells: &[Cell]) -> impl Iterator<Item = (usize, u32, u32)> + '_ {
     cells.iter().enumerate().filter_map(|(slot, cell)| match *cell {
         Cell::Entry { address, length, .. } => Some((slot, address, length)),
         _ => None,
@@ -107,6 +107,15 @@ fn s5(cells: &[Cell]) -> Option<usize> {
         .map(|(slot, _, _)| slot)
 }
 
+/// The cells of an image that keeps S1.
+pub(crate) fn valid(addresses: &[u32], tags: &[u32]) -> Result<Vec<Cell>, Fault> {
+    let cells = cells(addresses, tags)?;
+    match s1(&cells) {
+        Some(slot) => Err((7, slot)),
+        None => Ok(cells),
+    }
+}
+
 /// The cells of an image that is well-formed.
 fn well_formed(addresses: &[u32], tags: &[u32]) -> Result<Vec<Cell>, Fault> {
     let cells = cells(addresses, tags)?;
@@ -132,10 +141,7 @@ fn first_match(cells: &[Cell], q: u32) -> u32 {
 
 /// The hop of the first match for each of some addresses, or the first refusal.
 pub fn lookups(addresses: &[u32], tags: &[u32], keys: &[u32]) -> Result<Vec<u32>, Fault> {
-    let cells = cells(addresses, tags)?;
-    if let Some(slot) = s1(&cells) {
-        return Err((7, slot));
-    }
+    let cells = valid(addresses, tags)?;
     Ok(keys.iter().map(|&q| first_match(&cells, q)).collect())
 }
 

@@ -1,10 +1,11 @@
 //! The calls, each asked of both programs: the answers are compared, and so is every cell that was lent. A refused call has left
 //! all of them as they were, an accepted one has changed exactly what the second program says. A difference is a panic. The slot
-//! calls are here, those of lists in rows and in one slice, ranges, DXR tables and records in their own modules; `calls` counts
-//! them all.
+//! calls are here, those of lists in rows and in one slice, the download, ranges, DXR tables and records in their own modules;
+//! `calls` counts them all.
 
 pub mod calls;
 pub mod chunk;
+pub mod download;
 pub mod dxr;
 pub mod list;
 pub mod prefixes;
