@@ -10,11 +10,11 @@ use lib.Seq.{take-length}
 use Rattle.route.specs.Rule.{Route}
 use Rattle.route.specs.Refusals.{fine, value, refused, roomRefusal}
 use Rattle.tcam.specs.Slots.{maxSlots, Cell}
-use Rattle.tcam.specs.Plans.{Write, Planned, refuses, writes, withRoom, rowAfter}
+use Rattle.tcam.specs.Plans.{Write, Planned, refuses, writes, planAnswer, withRoom, rowAfter}
 use Rattle.tcam.specs.Applies.{written}
 use Rattle.tcam.specs.Book.{Book, BookAnswer, bookImage, settled}
 use Rattle.tcam.specs.Tables.{addresses, tags, routesIn, TableOf}
-use Rattle.claims.specs.Sequence.{Table, Plan, State, planned, Sound, AcceptedPlan, PlanClaim, after, lookedUp}
+use Rattle.claims.specs.Sequence.{Table, Plan, Request, Sound, AcceptedPlan, Held, refusedTable, plannedTable, after, lookedUp}
 use Rattle.tcam.proofs.Whole.{Makeable, faultless-first}
 use Rattle.claims.proofs.Image.{BookOk}
 use Rattle.claims.proofs.Form.{well-formed, image-length, image-keeps}
@@ -28,6 +28,15 @@ pub record Holding (W M : ℕ) (t : Table) : Type 0 where
   pub isImage : t .image ≡ bookImage W M (t .book)
   pub ok : BookOk W M (t .book)
   pub same : Same (routesIn (bookImage W M (t .book))) (t .routes)
+
+-- a set or a removal keeps this: refused, of the table as it was; accepted, of the table after the plan
+abbrev pub HoldsAfter : ℕ → ℕ → Table → List ℕ → Request → Planned → Type 0
+HoldsAfter W M t row r (refuses n p) = Holding W M (refusedTable t r)
+HoldsAfter W M t row r (writes ws) = Holding W M (plannedTable W t row r ws)
+
+-- the claim of a request, and what it keeps
+abbrev pub PlanHolds : ℕ → ℕ → Table → List ℕ → Request → Type 0
+PlanHolds W M t row r = (planAnswer (r .plan) ≡ r .booked .answer) × Held W M t row r (r .plan) × HoldsAfter W M t row r (r .plan)
 
 -- the image of such a book is a table of the set
 pub image-table : (W M : ℕ) → 1 ≤ M → M ≤ maxSlots → (b : Book) → BookOk W M b → (rs : List Route) → Same (routesIn (bookImage W M b)) rs
@@ -91,15 +100,13 @@ module _ (W M : ℕ) (i : 1 ≤ M) (j : M ≤ maxSlots) (b : Book) (ok : BookOk 
           rw (after-is W (bookImage W M b) low high ws cs-good row k (le-of-lt n)) (l .unfinished k m n);
     }
 
-  module _ (back : Table → State) (rest : State → Type 0) (backs : (t : Table) → Holding W M t → rest (back t))
-      (plans : (p : Plan) (t u : Table) → Holding W M t → Holding W M u → rest (planned p t u))
-      (most : ℕ) (row : List ℕ) (switch : ℕ → ℕ) (nextRoutes : List Route) where
-    -- the claim of such a request, by its plan and the book's answer
+  module _ (most : ℕ) (row : List ℕ) (switch : ℕ → ℕ) (nextRoutes : List Route) where
+    -- what is shown of such a request, by its plan and the book's answer
     abbrev pub Answered : Planned → BookAnswer → Type 0
-    Answered p e = PlanClaim W M (tableOf W M b rs) row back rest (record { plan = p; booked = e; routes = nextRoutes; switch = switch; most = most })
+    Answered p e = PlanHolds W M (tableOf W M b rs) row (record { plan = p; booked = e; routes = nextRoutes; switch = switch; most = most })
 
     pub answers-refused : (x y : ℕ) → Answered (refuses x y) (record { answer = refused x y; book = b })
-    answers-refused x y = (refl, sound i j holding, backs (tableOf W M b rs) holding)
+    answers-refused x y = (refl, sound i j holding, holding)
 
     pub answers-room : (ws : List Write) (next : Book) (w : ℕ) → Leads W M b rs ws next nextRoutes (switch (length ws)) → length ws ≡ w → w ≤ most
         → Answered (withRoom (length row) fine ws) (settled fine (length row) w b next)
@@ -111,5 +118,5 @@ module _ (W M : ℕ) (i : 1 ≤ M) (j : M ≤ maxSlots) (b : Book) (ok : BookOk 
         go false = (
           refl,
           acceptedPlan ws next nextRoutes (switch (length ws)) l row most (rw e m),
-          plans _ _ _ holding (holding-next ws next nextRoutes (switch (length ws)) l row),
+          holding-next ws next nextRoutes (switch (length ws)) l row,
         )

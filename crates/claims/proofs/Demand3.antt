@@ -12,16 +12,16 @@ use lib.ListN.{length, take, replicate}
 use Rattle.route.specs.Rule.{Route}
 use Rattle.route.specs.Refusals.{Verdict, fine, fault}
 use Rattle.tcam.specs.Slots.{maxSlots, Cell, cells, free}
-use Rattle.tcam.specs.Plans.{Write, falling}
+use Rattle.tcam.specs.Plans.{Write, Planned, refuses, writes, falling}
 use Rattle.tcam.specs.Applies.{storedIf, writesIn, applyFault}
 use Rattle.tcam.specs.Tables.{addresses, tags, routesIn}
 use Rattle.tcam.specs.Book.{Book, bookImage, emptyBook, lengths, rows}
-use Rattle.claims.specs.Sequence.{after, Call, set, remove, applyPlan, applyRefused, Table, Plan, State, idle, planned, Request, setRequest, removeRequest}
-use Rattle.claims.specs.Sequence.{PlanClaim, Claim, Demand3}
+use Rattle.claims.specs.Sequence.{after, Call, set, remove, applyPlan, applyRefused, Table, State, idle, planned, Request, setRequest, removeRequest}
+use Rattle.claims.specs.Sequence.{tableIn, afterPlan, afterApply, stateAfter, CallClaim, Claim, emptyTable, Demand3}
 use Rattle.claims.proofs.Apply.{cells-back}
 use Rattle.claims.proofs.Members.{Same}
 use Rattle.claims.proofs.Image.{BookOk}
-use Rattle.claims.proofs.Answer.{Holding, tableOf, sound}
+use Rattle.claims.proofs.Answer.{Holding, HoldsAfter, PlanHolds, tableOf, sound}
 use Rattle.claims.proofs.SetCall.{set-call}
 use Rattle.claims.proofs.RemoveCall.{remove-call}
 
@@ -38,47 +38,54 @@ kept (fault n p) cs ws f = cells-back cs
 untouched : (W : ℕ) (cs : List Cell) (row : List ℕ) (k : ℕ) → applyFault W (addresses cs) (tags cs) row k ≢ fine → after W cs row k ≡ cs
 untouched W cs row k f = kept (applyFault W (addresses cs) (tags cs) row k) cs (take k (writesIn row)) f
 
--- the claim at every state that the calls can reach
-pub record Safe (W M : ℕ) (cs : List Call) : Type 0 where
-  pub idles : (t : Table) → Holding W M t → Claim W M cs (idle t)
-  pub plans : (p : Plan) (t u : Table) → Holding W M t → Holding W M u → Claim W M cs (planned p t u)
+-- what the calls keep, at each state
+abbrev HoldingIn : ℕ → ℕ → State → Type 0
+HoldingIn W M (idle t) = Holding W M t
+HoldingIn W M (planned p t u) = Holding W M t × Holding W M u
+
+module _ (W M : ℕ) where
+  table-holding : (s : State) → HoldingIn W M s → Holding W M (tableIn s)
+  table-holding (idle t) h = h
+  table-holding (planned p t u) h = h .0
+
+  apply-holding : (s : State) → HoldingIn W M s → HoldingIn W M (afterApply s)
+  apply-holding (idle t) h = h
+  apply-holding (planned p t u) h = h .1
+
+  plan-holding : (s : State) (row : List ℕ) (r : Request) (p : Planned) → HoldingIn W M s → HoldsAfter W M (tableIn s) row r p
+      → HoldingIn W M (afterPlan W s row r p)
+  plan-holding (idle t) row r (refuses x y) h k = k
+  plan-holding (planned p t u) row r (refuses x y) h k = (k, h .1)
+  plan-holding s row r (writes ws) h k = (table-holding s h, k)
 
 module _ (W M : ℕ) (i : 1 ≤ M) (j : M ≤ maxSlots) where
   -- a set or a removal of a table that holds its set, by that of the book's image
-  planning : (row : List ℕ) (request : Table → Request) (back : Table → State) (rest : State → Type 0)
-      → ((b : Book) → BookOk W M b → (rs : List Route) → Same (routesIn (bookImage W M b)) rs
-      → PlanClaim W M (tableOf W M b rs) row back rest (request (tableOf W M b rs)))
-      → (t : Table) → Holding W M t → PlanClaim W M t row back rest (request t)
-  planning row request back rest call t h =
-      subst (λ t. PlanClaim W M t row back rest (request t)) (table-is h) (call (t .book) (h .ok) (t .routes) (h .same))
+  planning : (row : List ℕ) (request : Table → Request)
+      → ((b : Book) → BookOk W M b → (rs : List Route) → Same (routesIn (bookImage W M b)) rs → PlanHolds W M (tableOf W M b rs) row (request (tableOf W M b rs)))
+      → (t : Table) → Holding W M t → PlanHolds W M t row (request t)
+  planning row request call t h =
+      subst (λ t. PlanHolds W M t row (request t)) (table-is h) (call (t .book) (h .ok) (t .routes) (h .same))
 
-  module _ (cs : List Call) (s : Safe W M cs) where
-    -- from a table, or while a plan waits: a refused call goes back there
-    set-claim : (a n hop : ℕ) (row : List ℕ) (back : Table → State) → ((t : Table) → Holding W M t → Claim W M cs (back t)) → (t : Table) → Holding W M t
-        → PlanClaim W M t row back (Claim W M cs) (setRequest W M t a n hop (length row))
-    set-claim a n hop row back backs = planning row (λ t. setRequest W M t a n hop (length row)) back (Claim W M cs)
-        (λ b ok rs same. set-call W M i j b ok rs same back (Claim W M cs) backs (s .plans) a n hop row)
+  -- so it is claimed, and what the calls keep is kept
+  set-keeps : (a n hop : ℕ) (row : List ℕ) (t : Table) → Holding W M t → PlanHolds W M t row (setRequest W M t a n hop (length row))
+  set-keeps a n hop row = planning row (λ t. setRequest W M t a n hop (length row)) (λ b ok rs same. set-call W M i j b ok rs same a n hop row)
 
-    remove-claim : (a n : ℕ) (row : List ℕ) (back : Table → State) → ((t : Table) → Holding W M t → Claim W M cs (back t)) → (t : Table) → Holding W M t
-        → PlanClaim W M t row back (Claim W M cs) (removeRequest W M t a n (length row))
-    remove-claim a n row back backs = planning row (λ t. removeRequest W M t a n (length row)) back (Claim W M cs)
-        (λ b ok rs same. remove-call W M i j b ok rs same back (Claim W M cs) backs (s .plans) a n row)
+  remove-keeps : (a n : ℕ) (row : List ℕ) (t : Table) → Holding W M t → PlanHolds W M t row (removeRequest W M t a n (length row))
+  remove-keeps a n row = planning row (λ t. removeRequest W M t a n (length row)) (λ b ok rs same. remove-call W M i j b ok rs same a n row)
 
-  safe : (cs : List Call) → Safe W M cs
-  safe [] = record { idles = λ t h. tt; plans = λ p t u h g. tt }
-  safe (set a n hop row ∷ cs) = record {
-    idles = set-claim cs (safe cs) a n hop row idle (safe cs .idles);
-    plans = λ p t u h g. set-claim cs (safe cs) a n hop row (λ b. planned p b u) (λ b k. safe cs .plans p b u k g) t h;
-  }
-  safe (remove a n row ∷ cs) = record {
-    idles = remove-claim cs (safe cs) a n row idle (safe cs .idles);
-    plans = λ p t u h g. remove-claim cs (safe cs) a n row (λ b. planned p b u) (λ b k. safe cs .plans p b u k g) t h;
-  }
-  safe (applyPlan ∷ cs) = record { idles = λ t h. (tt, safe cs .idles t h); plans = λ p t u h g. (sound i j g, safe cs .idles u g) }
-  safe (applyRefused row k ∷ cs) = record {
-    idles = λ t h. (untouched W (t .image) row k, safe cs .idles t h);
-    plans = λ p t u h g. (untouched W (t .image) row k, safe cs .plans p t u h g);
-  }
+  call-claim : (c : Call) (s : State) → HoldingIn W M s → CallClaim W M s c × HoldingIn W M (stateAfter W M s c)
+  call-claim (set a n hop row) s h =
+      let k = set-keeps a n hop row (tableIn s) (table-holding W M s h) in
+      ((k .0, k .1), plan-holding W M s row _ _ h (k .2))
+  call-claim (remove a n row) s h =
+      let k = remove-keeps a n row (tableIn s) (table-holding W M s h) in
+      ((k .0, k .1), plan-holding W M s row _ _ h (k .2))
+  call-claim applyPlan s h = let k = apply-holding W M s h in (sound i j (table-holding W M (afterApply s) k), k)
+  call-claim (applyRefused row k) s h = (untouched W (tableIn s .image) row k, h)
+
+  claim : (cs : List Call) (s : State) → HoldingIn W M s → Claim W M cs s
+  claim [] s h = tt
+  claim (c ∷ cs) s h = let k = call-claim c s h in (k .0, claim cs (stateAfter W M s c) (k .1))
 
 -- the empty table
 no-rows : (ls : List ℕ) → rows emptyBook ls ≡ []
@@ -102,5 +109,4 @@ pub empty-same : (W M : ℕ) → Same (routesIn (bookImage W M emptyBook)) []
 empty-same W M = rw (← (empty-is W M), no-routes M) (record { often = λ r. refl })
 
 pub demand3 : (W : ℕ) → Demand3 W
-demand3 W M i j cs = safe W M i j cs .idles _
-    (record { isImage = empty-is W M; ok = empty-ok W M; same = empty-same W M })
+demand3 W M i j cs = claim W M i j cs (idle (emptyTable M)) (record { isImage = empty-is W M; ok = empty-ok W M; same = empty-same W M })

@@ -12,7 +12,7 @@ use native.Mathlib.Omega.{arith}
 use lib.ListN.{length, length-replicate, replicate}
 use Rattle.route.specs.RightHop.{_∈_}
 use Rattle.route.specs.Refusals.{fine}
-use Rattle.tcam.specs.Slots.{Cell, free, isFree, lengthIn, keepsS1}
+use Rattle.tcam.specs.Slots.{Cell, isFree, lengthIn, keepsS1}
 use Rattle.tcam.specs.Tables.{addresses}
 use Rattle.tcam.specs.Plans.{ofPrefix}
 use Rattle.tcam.specs.Download.{From, start, past, isToCome, isAhead, nextIn, end, refusal, entryOrEnd, fromFault}
@@ -20,7 +20,7 @@ use Rattle.route.proofs.Tests.{byTest, clash, and-parts, both}
 use Rattle.route.proofs.Accepted.{prefix-good}
 use Rattle.route.proofs.PrefixOrder.{byOrder, before-trans, not-itself}
 use Rattle.claims.specs.Agreement.{Addresses}
-use Rattle.claims.specs.Download.{Image, asked, onward, walkFrom, walk, Each, isPresent, Says, Unrefused, KeepsS1, DownloadClaim}
+use Rattle.claims.specs.Download.{Image, asked, onward, walkFrom, walk, Each, isPresent, Says, Unrefused, KeepsS1, atFirst, DownloadClaim}
 use Rattle.claims.proofs.Times.{All, all-copies, times, times-mono, times-most}
 use Rattle.claims.proofs.Members.{member}
 use Rattle.claims.proofs.Apply.{Keeps, cells-back, no-size-fault, no-slot-fault}
@@ -153,7 +153,7 @@ downloadClaim W = record {
   still = still W;
   ends = ends W;
   meanwhile = λ M i j es.
-      let s = stands-read W M i j es (record { image = replicate M free; left = [] }) (stands-empty W M i j) in
+      let s = stands-read W M i j es (atFirst M) (stands-empty W M i j) in
       let k : Each (KeepsS1 W) _ = λ cs m. s cs m .1 in
       record { inSequence = λ cs m. s cs m .0; keep = k; answered = unrefused W _ start refl k; walked = walked W _ };
 }

@@ -5,9 +5,10 @@ pub mod Board
 pub mod Times
 pub mod Members
 pub mod Join
--- slots sought, lookups, and the walk of the open slot
+-- slots sought, lookups, an entry in two slots, and the walk of the open slot
 pub mod Find
 pub mod Look
+pub mod Twice
 pub mod Walk
 -- the book: one row, a turned row, a row about an entry, rows of several lengths, where a length lies, the image
 pub mod Row
@@ -30,7 +31,6 @@ pub mod HasPrefix
 pub mod Set
 -- plans applied, cut, answered; the claim
 pub mod Apply
-pub mod Twice
 pub mod Cuts
 pub mod Entry
 pub mod Answer

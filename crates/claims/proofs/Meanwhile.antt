@@ -11,7 +11,7 @@ use mathlib.Core.List.{List, [], _∷_, _++_, List·Memᴰ·not-nil, List·Mem�
 use native.Mathlib.Nat.{le-refl}
 use native.Mathlib.Omega.{arith}
 use lib.Dec.{leb, ltb}
-use lib.ListN.{length, length-take, length-replicate, replicate, take, drop, take-append-drop, drop-of-length-le}
+use lib.ListN.{length, length-take, length-replicate, take, drop, take-append-drop, drop-of-length-le}
 use lib.Seq.{take-take, take-nil, take-suc, drop-cons, take-length, take-append-le}
 use borrow.Author.Tests.{leb-true, leb-false, ltb-true, ltb-false}
 use Rattle.route.specs.RightHop.{_∈_}
@@ -24,8 +24,9 @@ use Rattle.tcam.specs.Applies.{written, writesIn, applyFault}
 use Rattle.route.proofs.Tests.{byTest, inTurn, answered}
 use Rattle.tcam.proofs.Writes.{read-back}
 use Rattle.claims.specs.Sequence.{Call, set, remove, applyPlan, applyRefused, Table, Plan, State, idle, planned, Request, AcceptedPlan, after}
-use Rattle.claims.specs.Sequence.{refusedTable, Held, Claim, tableIn, withTable, applied, ledTo, leads, next, reached, emptyTable, setRequest, removeRequest}
-use Rattle.claims.specs.Download.{Image, KeepsS1, Event, update, write, read, Now, afterPlan, afterCall, afterWrite, imagesRead, cutOf, writesOf, InSequence}
+use Rattle.claims.specs.Sequence.{refusedTable, Held, tableIn, withTable, afterPlan, afterApply, CallClaim, stateAfter, Claim, reached, emptyTable}
+use Rattle.claims.specs.Sequence.{setRequest, removeRequest}
+use Rattle.claims.specs.Download.{Image, KeepsS1, Event, update, write, read, Now, atFirst, nowPlanned, nowCalled, nowWritten, imagesRead, cutOf, writesOf, InSequence}
 use Rattle.claims.proofs.Apply.{Keeps, cells-back, stored-rows}
 use Rattle.claims.proofs.Times.{all-copies}
 use Rattle.claims.proofs.Members.{member}
@@ -74,15 +75,14 @@ module _ (W : ℕ) where
   cut-keeps (idle t) h k n = h
   cut-keeps (planned p t t′) h k n = h .keeps k n
 
-  module _ (row : List ℕ) (r : Request) where
-    -- a set or a removal leads to such a state
-    led-standing : (M : ℕ) (s : State) → Standing W s → (p : Planned) → Held W M (tableIn s) row r p
-        → Standing W (ledTo W (tableIn s) row r (withTable s) p)
-    led-standing M (idle t) h (refuses x y) k = h
-    led-standing M (planned p t t′) h (refuses x y) k = h
-    led-standing M s h (writes ws) k = accepted-waits k refl
+  -- a set or a removal leads to such a state, and so does an apply
+  plan-standing : (M : ℕ) (s : State) (row : List ℕ) (r : Request) (p : Planned) → Standing W s → Held W M (tableIn s) row r p
+      → Standing W (afterPlan W s row r p)
+  plan-standing M (idle t) row r (refuses x y) h k = h
+  plan-standing M (planned p t t′) row r (refuses x y) h k = h
+  plan-standing M s row r (writes ws) h k = accepted-waits k refl
 
-  applied-standing : (s : State) → Standing W s → Standing W (applied s)
+  applied-standing : (s : State) → Standing W s → Standing W (afterApply s)
   applied-standing (idle t) h = h
   applied-standing (planned p t t′) h = subst (KeepsS1 W) (h .ends) (h .keeps (p .writes) (le-refl (p .writes)))
 
@@ -98,11 +98,11 @@ module _ (W : ℕ) where
   none-left : (s : State) → drop (writesOf s) (planWrites s) ≡ []
   none-left s = drop-of-length-le (planWrites s) (few-writes s)
 
-  applied-image : (s : State) → Standing W s → written (tableIn s .image) (take (writesOf s) (planWrites s)) ≡ tableIn (applied s) .image
+  applied-image : (s : State) → Standing W s → written (tableIn s .image) (take (writesOf s) (planWrites s)) ≡ tableIn (afterApply s) .image
   applied-image (idle t) h = refl
   applied-image (planned p t t′) h = sym (cut-is (planned p t t′) h (p .writes) (le-refl (p .writes))) ∙ h .ends
 
-  applied-none : (s : State) → planWrites (applied s) ≡ []
+  applied-none : (s : State) → planWrites (afterApply s) ≡ []
   applied-none (idle t) = refl
   applied-none (planned p t t′) = refl
 
@@ -117,25 +117,19 @@ with-writes (planned p u u′) t = refl
 
 -- demand 3's claim at the state that some calls lead to
 module _ (W M : ℕ) where
-  claim-next : (c : Call) (cs : List Call) (s : State) → Claim W M (c ∷ cs) s → Claim W M cs (next W M s c)
-  claim-next (set a n h row) cs s k = k .2
-  claim-next (remove a n row) cs s k = k .2
-  claim-next applyPlan cs s k = k .1
-  claim-next (applyRefused row k′) cs s k = k .1
-
   claim-reached : (cs more : List Call) (s : State) → Claim W M (cs ++ more) s → Claim W M more (reached W M s cs)
   claim-reached [] more s k = k
-  claim-reached (c ∷ cs) more s k = claim-reached cs more (next W M s c) (claim-next c (cs ++ more) s k)
+  claim-reached (c ∷ cs) more s k = claim-reached cs more (stateAfter W M s c) (k .1)
 
-  reached-more : (cs : List Call) (c : Call) (s : State) → reached W M s (cs ++ (c ∷ [])) ≡ next W M (reached W M s cs) c
+  reached-more : (cs : List Call) (c : Call) (s : State) → reached W M s (cs ++ (c ∷ [])) ≡ stateAfter W M (reached W M s cs) c
   reached-more [] c s = refl
-  reached-more (d ∷ cs) c s = reached-more cs c (next W M s d)
+  reached-more (d ∷ cs) c s = reached-more cs c (stateAfter W M s d)
 
 -- where the table stands now: the calls that led there, the state that they lead to, and how many writes of its plan were made
 pub record Stands (W M : ℕ) (now : Now) : Type 0 where
   pub calls : List Call
   pub state : State
-  pub reaches : reached W M (emptyTable M) calls ≡ state
+  pub reaches : reached W M (idle (emptyTable M)) calls ≡ state
   pub standing : Standing W state
   pub made : ℕ
   pub within : made ≤ writesOf state
@@ -143,12 +137,12 @@ pub record Stands (W M : ℕ) (now : Now) : Type 0 where
   pub left : now .left ≡ drop made (planWrites state)
 
 module _ (W M : ℕ) (i : 1 ≤ M) (j : M ≤ maxSlots) where
-  -- demand 3 at that state
-  claimed : {now : Now} (s : Stands W M now) (c : Call) → Claim W M (c ∷ []) (s .state)
-  claimed s c = subst (Claim W M (c ∷ [])) (s .reaches) (claim-reached W M (s .calls) (c ∷ []) (emptyTable M) (demand3 W M i j (s .calls ++ (c ∷ []))))
+  -- demand 3 of one call more
+  claimed : {now : Now} (s : Stands W M now) (c : Call) → CallClaim W M (s .state) c
+  claimed s c = subst (Claim W M (c ∷ [])) (s .reaches) (claim-reached W M (s .calls) (c ∷ []) (idle (emptyTable M)) (demand3 W M i j (s .calls ++ (c ∷ [])))) .0
 
-  one-more : {now : Now} (s : Stands W M now) (c : Call) → reached W M (emptyTable M) (s .calls ++ (c ∷ [])) ≡ next W M (s .state) c
-  one-more s c = reached-more W M (s .calls) c (emptyTable M) ∙ ap (λ t. next W M t c) (s .reaches)
+  one-more : {now : Now} (s : Stands W M now) (c : Call) → reached W M (idle (emptyTable M)) (s .calls ++ (c ∷ [])) ≡ stateAfter W M (s .state) c
+  one-more s c = reached-more W M (s .calls) c (idle (emptyTable M)) ∙ ap (λ t. stateAfter W M t c) (s .reaches)
 
   -- the image is a cut
   stands-cut : {now : Now} (s : Stands W M now) → now .image ≡ cutOf W (s .state) (s .made)
@@ -160,8 +154,23 @@ module _ (W M : ℕ) (i : 1 ≤ M) (j : M ≤ maxSlots) where
   keeps-now : {now : Now} → Stands W M now → KeepsS1 W (now .image)
   keeps-now s = rw (stands-cut s) (cut-keeps W (s .state) (s .standing) (s .made) (s .within))
 
-  -- a single write leads to the next cut
-  stands-write : {now : Now} → Stands W M now → Stands W M (afterWrite now)
+  -- the same state with so many writes of its plan made
+  with-made : {now after : Now} (s : Stands W M now) (k : ℕ) → k ≤ writesOf (s .state)
+      → after .image ≡ written (tableIn (s .state) .image) (take k (planWrites (s .state))) → after .left ≡ drop k (planWrites (s .state))
+      → Stands W M after
+  with-made s k l e f = record {
+    calls = s .calls;
+    state = s .state;
+    reaches = s .reaches;
+    standing = s .standing;
+    made = k;
+    within = l;
+    image = e;
+    left = f;
+  }
+
+  -- a single write leads to the next cut; where none is left it leads nowhere
+  stands-write : {now : Now} → Stands W M now → Stands W M (nowWritten now)
   stands-write {now} s =
       let t = s .state in
       let ws = planWrites t in
@@ -169,52 +178,29 @@ module _ (W M : ℕ) (i : 1 ≤ M) (j : M ≤ maxSlots) where
       byTest (ltb k (length ws))
       (λ e. let l = ltb-true k (length ws) e in
       let d = drop-cons ws k (Plans.write 0 free) l in
-      record {
-        calls = s .calls;
-        state = t;
-        reaches = s .reaches;
-        standing = s .standing;
-        made = suc k;
-        within = omega (arith, few-writes W t);
-        image = rw (s .left, d, take-suc ws k (Plans.write 0 free) l, s .image) (sym (written-append (tableIn t .image) (take k ws) _));
-        left = rw (s .left, d);
-      })
+      with-made s (suc k) (omega (arith, few-writes W t))
+      (rw (s .left, d, take-suc ws k (Plans.write 0 free) l, s .image) (sym (written-append (tableIn t .image) (take k ws) _)))
+      (rw (s .left, d)))
       (λ e. let d = drop-of-length-le ws (ltb-false k (length ws) e) in
-      record {
-        calls = s .calls;
-        state = t;
-        reaches = s .reaches;
-        standing = s .standing;
-        made = k;
-        within = s .within;
-        image = rw (s .left, d) (s .image);
-        left = rw (s .left, d);
-      })
+      with-made s k (s .within) (rw (s .left, d) (s .image)) (rw (s .left, d)))
 
   -- an apply makes the writes that are left
-  stands-applied : {now : Now} → Stands W M now → Stands W M (afterCall W now applyPlan)
+  stands-applied : {now : Now} → Stands W M now → Stands W M (nowCalled W now applyPlan)
   stands-applied {now} s =
       let t = s .state in
-      record {
-        calls = s .calls;
-        state = t;
-        reaches = s .reaches;
-        standing = s .standing;
-        made = writesOf t;
-        within = le-refl (writesOf t);
-        image = rw (s .image, s .left, whole-plan W t)
-            (sym (written-append (tableIn t .image) (take (s .made) (planWrites t)) (drop (s .made) (planWrites t)))
-            ∙ ap (written (tableIn t .image)) (take-append-drop (s .made) (planWrites t)));
-        left = sym (none-left W t);
-      }
+      let ws = planWrites t in
+      with-made s (writesOf t) (le-refl (writesOf t))
+      (rw (s .image, s .left, whole-plan W t)
+      (sym (written-append (tableIn t .image) (take (s .made) ws) (drop (s .made) ws)) ∙ ap (written (tableIn t .image)) (take-append-drop (s .made) ws)))
+      (sym (none-left W t))
 
-  -- a plan made to its end was applied
+  -- a plan made to its end was afterApply
   abbrev stands-ended : {now : Now} (s : Stands W M now) → s .made ≡ writesOf (s .state) → Stands W M now
   stands-ended s e =
       let t = s .state in
       record {
         calls = s .calls ++ (applyPlan ∷ []);
-        state = applied t;
+        state = afterApply t;
         reaches = one-more s applyPlan;
         standing = applied-standing W t (s .standing);
         made = 0;
@@ -226,27 +212,27 @@ module _ (W M : ℕ) (i : 1 ≤ M) (j : M ≤ maxSlots) where
   -- a set or a removal, by its plan on an image; where a rule is broken it is refused
   module _ (c : Call) (row : List ℕ) (request : Table → Request) (plan : Image → Planned)
       (planned-so : (t : Table) → request t .plan ≡ plan (t .image))
-      (leads-so : (s : State) → next W M s c ≡ leads W s row (request (tableIn s)))
-      (held-so : (s : State) → Claim W M (c ∷ []) s → Held W M (tableIn s) row (request (tableIn s)) (request (tableIn s) .plan))
-      (refused-so : (cs : Image) → imageFault W 0 [] cs ≢ fine → (now : Now) → afterPlan now (plan cs) ≡ now) where
+      (leads-so : (s : State) → stateAfter W M s c ≡ afterPlan W s row (request (tableIn s)) (request (tableIn s) .plan))
+      (held-so : (s : State) → CallClaim W M s c → Held W M (tableIn s) row (request (tableIn s)) (request (tableIn s) .plan))
+      (refused-so : (cs : Image) → imageFault W 0 [] cs ≢ fine → (now : Now) → nowPlanned now (plan cs) ≡ now) where
     -- no write was made of a plan that waits: a call of the sequence
-    stands-planned : {now : Now} (s : Stands W M now) → s .made ≡ 0 → Stands W M (afterPlan now (plan (now .image)))
+    stands-planned : {now : Now} (s : Stands W M now) → s .made ≡ 0 → Stands W M (nowPlanned now (plan (now .image)))
     stands-planned {now} s z =
         let e : now .image ≡ tableIn (s .state) .image = s .image ∙ ap (λ k. written (tableIn (s .state) .image) (take k (planWrites (s .state)))) z in
-        subst (λ p. Stands W M (afterPlan now p)) (planned-so (tableIn (s .state)) ∙ ap plan (sym e))
+        subst (λ p. Stands W M (nowPlanned now p)) (planned-so (tableIn (s .state)) ∙ ap plan (sym e))
         (go (r .plan) (held-so (s .state) (claimed s c)) (one-more s c ∙ leads-so (s .state)) e)
       where
         r : Request
         r = request (tableIn (s .state))
 
         go : (p : Planned) → Held W M (tableIn (s .state)) row r p
-            → reached W M (emptyTable M) (s .calls ++ (c ∷ [])) ≡ ledTo W (tableIn (s .state)) row r (withTable (s .state)) p
-            → now .image ≡ tableIn (s .state) .image → Stands W M (afterPlan now p)
+            → reached W M (idle (emptyTable M)) (s .calls ++ (c ∷ [])) ≡ afterPlan W (s .state) row r p
+            → now .image ≡ tableIn (s .state) .image → Stands W M (nowPlanned now p)
         go (refuses x y) h reaches e = record {
           calls = s .calls ++ (c ∷ []);
           state = withTable (s .state) (refusedTable (tableIn (s .state)) r);
           reaches = reaches;
-          standing = led-standing W row r M (s .state) (s .standing) (refuses x y) h;
+          standing = plan-standing W M (s .state) row r (refuses x y) (s .standing) h;
           made = 0;
           within = zero-le;
           image = rw (with-table (s .state) (refusedTable (tableIn (s .state)) r)) e;
@@ -256,14 +242,14 @@ module _ (W M : ℕ) (i : 1 ≤ M) (j : M ≤ maxSlots) where
           calls = s .calls ++ (c ∷ []);
           state = _;
           reaches = reaches;
-          standing = led-standing W row r M (s .state) (s .standing) (writes ws) h;
+          standing = plan-standing W M (s .state) row r (writes ws) (s .standing) h;
           made = 0;
           within = zero-le;
           image = e;
           left = sym (rw (read-back, take-append-le (length ws) ws _ (le-refl (length ws))) (take-length ws));
         }
 
-    stands-called : {now : Now} → Stands W M now → Stands W M (afterPlan now (plan (now .image)))
+    stands-called : {now : Now} → Stands W M now → Stands W M (nowPlanned now (plan (now .image)))
     stands-called {now} s = byTest (leb 1 (s .made))
         (λ e. byTest (ltb (s .made) (writesOf (s .state)))
         (λ l. subst (Stands W M) (sym (refused-so (now .image) (halfway (s .state) (s .standing) (stands-cut s) (leb-true 1 _ e) (ltb-true _ _ l)) now)) s)
@@ -276,14 +262,14 @@ module _ (W M : ℕ) (i : 1 ≤ M) (j : M ≤ maxSlots) where
 
   -- a broken rule is refused, whatever else is tested
   refuses-broken : (v : Verdict) (p : Planned) (cs : Image) → imageFault W 0 [] cs ≢ fine → (now : Now)
-      → afterPlan now (ifFine (tableFault W (addresses cs) (tags cs) then v) p) ≡ now
+      → nowPlanned now (ifFine (tableFault W (addresses cs) (tags cs) then v) p) ≡ now
   refuses-broken v p cs b now = go (tableFault W (addresses cs) (tags cs)) (λ e. b (rw cells-back at (inTurn (sizeFault (addresses cs) (tags cs)) _ e .1)))
     where
-      go : (u : Verdict) → u ≢ fine → afterPlan now (ifFine (u then v) p) ≡ now
+      go : (u : Verdict) → u ≢ fine → nowPlanned now (ifFine (u then v) p) ≡ now
       go fine n = absurd (n refl)
       go (fault x y) n = refl
 
-  stands-call : (c : Call) {now : Now} → Stands W M now → Stands W M (afterCall W now c)
+  stands-call : (c : Call) {now : Now} → Stands W M now → Stands W M (nowCalled W now c)
   stands-call (set a n h row) s = stands-called (set a n h row) row (λ t. setRequest W M t a n h (length row)) (λ cs. planSet W (addresses cs) (tags cs) a n h (length row))
       (λ t. refl) (λ t. refl) (λ t k. k .1) (λ cs. refuses-broken _ _ cs) s
   stands-call (remove a n row) s = stands-called (remove a n row) row (λ t. removeRequest W M t a n (length row)) (λ cs. planRemove W (addresses cs) (tags cs) a n (length row))
@@ -293,8 +279,8 @@ module _ (W M : ℕ) (i : 1 ≤ M) (j : M ≤ maxSlots) where
 
   pub stands-read : (es : List Event) (now : Now) → Stands W M now → (cs : Image) → cs ∈ imagesRead W es now → InSequence W M cs × KeepsS1 W cs
   stands-read [] now s cs m = absurd (List·Memᴰ·not-nil m)
-  stands-read (update c ∷ es) now s cs m = stands-read es (afterCall W now c) (stands-call c s) cs m
-  stands-read (write ∷ es) now s cs m = stands-read es (afterWrite now) (stands-write s) cs m
+  stands-read (update c ∷ es) now s cs m = stands-read es (nowCalled W now c) (stands-call c s) cs m
+  stands-read (write ∷ es) now s cs m = stands-read es (nowWritten now) (stands-write s) cs m
   stands-read (read ∷ es) now s cs m = go (List·Memᴰ·cases-cons m) (stands-read es now s cs)
     where
       go : (cs ≡ now .image) ⊎ (cs ∈ imagesRead W es now) → (cs ∈ imagesRead W es now → InSequence W M cs × KeepsS1 W cs) → InSequence W M cs × KeepsS1 W cs
@@ -302,10 +288,10 @@ module _ (W M : ℕ) (i : 1 ≤ M) (j : M ≤ maxSlots) where
       go (inr l) ih = ih l
 
   -- the empty table
-  pub stands-empty : Stands W M (record { image = replicate M free; left = [] })
+  pub stands-empty : Stands W M (atFirst M)
   stands-empty = record {
     calls = [];
-    state = emptyTable M;
+    state = idle (emptyTable M);
     reaches = refl;
     made = 0;
     within = zero-le;

@@ -115,7 +115,7 @@ module _ (W : ℕ) where
       (λ q. present-valid a n cs (k .1) (rw q at p))
 
   -- each slot of an image without a fault keeps S1
-  pub fine-keeps : (i : ℕ) (cs : Image) → slotFault W i cs ≡ fine → All (Keeps W) cs
+  fine-keeps : (i : ℕ) (cs : Image) → slotFault W i cs ≡ fine → All (Keeps W) cs
   fine-keeps i [] f = tt
   fine-keeps i (c ∷ cs) f =
       let t = inTurn (faultIf (not (keepsS1 W c)) imageRefusal i) _ f in

@@ -15,7 +15,7 @@ use Rattle.tcam.specs.Tables.{routesIn, addresses, tags}
 use Rattle.tcam.proofs.SlotsAgree.{imageKeepsS1}
 use Rattle.tcam.proofs.Whole.{Makeable, removePresent-makeable}
 use Rattle.tcam.proofs.Most.{removePresent-most}
-use Rattle.claims.specs.Sequence.{Table, Plan, State, planned, without}
+use Rattle.claims.specs.Sequence.{without}
 use Rattle.claims.proofs.Found.{Found, Search, absent, present, searched}
 use Rattle.claims.proofs.Walk.{walk-times}
 use Rattle.claims.proofs.Image.{BookOk}
@@ -27,11 +27,9 @@ use Rattle.claims.proofs.Apply.{cells-back, no-size-fault}
 use Rattle.claims.proofs.Cuts.{starts-inside, leads-removed}
 use Rattle.claims.proofs.Entry.{prefix-length}
 use Rattle.claims.proofs.Updates.{update-remove, found-prefix, cleared-present, stands-at, stands-nowhere}
-use Rattle.claims.proofs.Answer.{Holding, Answered, answers-refused, answers-room}
+use Rattle.claims.proofs.Answer.{Answered, answers-refused, answers-room}
 
 module _ (W M : ℕ) (i : 1 ≤ M) (j : M ≤ maxSlots) (b : Book) (ok : BookOk W M b) (rs : List Route) (same : Same (routesIn (bookImage W M b)) rs)
-    (back : Table → State) (rest : State → Type 0) (backs : (t : Table) → Holding W M t → rest (back t))
-    (plans : (p : Plan) (t u : Table) → Holding W M t → Holding W M u → rest (planned p t u))
     (a n : ℕ) (row : List ℕ) where
   abbrev cs : List Cell
   cs = bookImage W M b
@@ -44,20 +42,20 @@ module _ (W M : ℕ) (i : 1 ≤ M) (j : M ≤ maxSlots) (b : Book) (ok : BookOk 
   plan = removeAt W cs n room (firstSlot (ofPrefix a n) 0 cs)
 
   abbrev Answers : Planned → BookAnswer → Type 0
-  Answers = Answered W M i j b ok rs same back rest backs plans (mostToRemove W) row (λ w. 1) (without a n rs)
+  Answers = Answered W M i j b ok rs same (mostToRemove W) row (λ w. 1) (without a n rs)
 
   -- how many writes the book counts
   abbrev many : ℕ
   many = 1 + rowsTurned W b n (lengths W) + countIf (not (atEdge (isUpperLength W n) a (b n)))
 
   refuse : (x y : ℕ) → Answers (refuses x y) (record { answer = refused x y; book = b })
-  refuse x y = answers-refused W M i j b ok rs same back rest backs plans (mostToRemove W) row (λ w. 1) (without a n rs) x y
+  refuse x y = answers-refused W M i j b ok rs same (mostToRemove W) row (λ w. 1) (without a n rs) x y
 
   remove-present : n ≤ W → (q : Found a (b n)) → Answers plan (settled fine room many b (afterRemove W b n a))
   remove-present bits q =
       subst (λ o. Answers (removeAt W cs n room o) (settled fine room many b (afterRemove W b n a)))
       (sym (stands-at W M b ok n bits a (u .front) (q .entry) (u .back) (u .before) prefix))
-      (answers-room W M i j b ok rs same back rest backs plans (mostToRemove W) row (λ w. 1) (without a n rs) (removePresent W cs n (length (u .front)))
+      (answers-room W M i j b ok rs same (mostToRemove W) row (λ w. 1) (without a n rs) (removePresent W cs n (length (u .front)))
       (afterRemove W b n a) many
       (leads-removed W M b ok rs same (q .entry) free (λ s. removePresent W cs n s) (afterRemove W b n a) many u (without a n rs) next
       makeable refl (omega arith))

@@ -18,7 +18,7 @@ use Rattle.records.specs.Records.{Update, removal, setting}
 use Rattle.lines.specs.Lines.{headerLine, refusedLine, tooLongLine}
 use Rattle.history.specs.Reports.{Rows, rows, slots, emptyRows, planRoom, planOf, after, updateText}
 use Rattle.history.specs.Reports.{Item, asks, unreadable, items, history, maxInput, reportSlots}
-use Rattle.claims.specs.Sequence.{Table, State, idle, planned, Request, setRequest, removeRequest, ledTo, PlanClaim}
+use Rattle.claims.specs.Sequence.{Table, Request, setRequest, removeRequest}
 use Rattle.claims.specs.ReportOfBook.{booked, bookText, bookHistory, ReportOfBook}
 use Rattle.claims.proofs.Times.{times}
 use Rattle.claims.proofs.Image.{BookOk}
@@ -26,7 +26,7 @@ use Rattle.claims.proofs.Prefix.{free-slots}
 use Rattle.claims.proofs.Form.{image-length}
 use Rattle.claims.proofs.Members.{Same}
 use Rattle.claims.proofs.Apply.{cells-back, stored-map, stored-rows}
-use Rattle.claims.proofs.Answer.{Holding, tableOf}
+use Rattle.claims.proofs.Answer.{Holding, tableOf, HoldsAfter, PlanHolds}
 use Rattle.claims.proofs.SetCall.{set-call}
 use Rattle.claims.proofs.RemoveCall.{remove-call}
 use Rattle.claims.proofs.Demand3.{empty-ok, empty-is, empty-same}
@@ -66,16 +66,11 @@ module _ (W M : ℕ) (i : 1 ≤ M) (j : M ≤ maxSlots) (b : Book) (k : Kept W M
   abbrev before : Table
   before = tableOf W M b (k .routes)
 
-  -- where a call of demand 3 leads to: a table that holds its set
-  abbrev Reached : State → Type 0
-  Reached (idle u) = Holding W M u
-  Reached (planned p u v) = Holding W M v
-
   kept : {u : Table} → Holding W M u → Kept W M (u .book)
   kept {u} h = record { ok = h .ok; routes = u .routes; same = h .same }
 
   -- a request for any room, by its call with a row of that length
-  agrees : (request : ℕ → Request) → ((row : List ℕ) → PlanClaim W M before row idle Reached (request (length row)))
+  agrees : (request : ℕ → Request) → ((row : List ℕ) → PlanHolds W M before row (request (length row)))
       → ((room : ℕ) (ws : List Write) → request room .plan ≡ writes ws → (row : List ℕ) → AppliesWhole W (addresses cs) (tags cs) ws row)
       → (room : ℕ) → Agrees W M b (request room .plan) (request room .booked)
   agrees request call applies room =
@@ -87,7 +82,7 @@ module _ (W M : ℕ) (i : 1 ≤ M) (j : M ≤ maxSlots) (b : Book) (k : Kept W M
       r : Request
       r = request (length row)
 
-      go : (p : Planned) → r .plan ≡ p → planAnswer p ≡ r .booked .answer → Reached (ledTo W before row r idle p) → Agrees W M b p (r .booked)
+      go : (p : Planned) → r .plan ≡ p → planAnswer p ≡ r .booked .answer → HoldsAfter W M before row r p → Agrees W M b p (r .booked)
       go (refuses n q) e a o = record { answers = a; table = ap rowsOf (o .isImage); next = kept o }
       go (writes ws) e a o =
           let w = applies (length row) ws e row in
@@ -101,13 +96,13 @@ module _ (W M : ℕ) (i : 1 ≤ M) (j : M ≤ maxSlots) (b : Book) (k : Kept W M
   set-agrees : (a n h room : ℕ) → Agrees W M b (planSet W (addresses cs) (tags cs) a n h room) (bookSet W M b a n h room)
   set-agrees a n h =
       agrees (setRequest W M before a n h)
-      (set-call W M i j b (k .ok) (k .routes) (k .same) idle Reached (λ u g. g) (λ p u v f g. g) a n h)
+      (set-call W M i j b (k .ok) (k .routes) (k .same) a n h)
       (λ room ws e. set-applies W (addresses cs) (tags cs) a n h room e)
 
   remove-agrees : (a n room : ℕ) → Agrees W M b (planRemove W (addresses cs) (tags cs) a n room) (bookRemove W M b a n room)
   remove-agrees a n =
       agrees (removeRequest W M before a n)
-      (remove-call W M i j b (k .ok) (k .routes) (k .same) idle Reached (λ u g. g) (λ p u v f g. g) a n)
+      (remove-call W M i j b (k .ok) (k .routes) (k .same) a n)
       (λ room ws e. remove-applies W (addresses cs) (tags cs) a n room e)
 
 -- the update's line

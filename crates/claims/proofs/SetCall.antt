@@ -18,7 +18,7 @@ use Rattle.tcam.specs.Tables.{routesIn, addresses, tags}
 use Rattle.tcam.proofs.SlotsAgree.{imageKeepsS1}
 use Rattle.tcam.proofs.Whole.{Makeable, none-makeable, write-makeable, setAbsent-makeable}
 use Rattle.tcam.proofs.Most.{setAbsent-most}
-use Rattle.claims.specs.Sequence.{Table, Plan, State, planned, without}
+use Rattle.claims.specs.Sequence.{without}
 use Rattle.claims.proofs.Times.{times}
 use Rattle.claims.proofs.Row.{IsEntry, at}
 use Rattle.claims.proofs.Found.{Found, found-once, Search, absent, present, searched}
@@ -33,11 +33,9 @@ use Rattle.claims.proofs.Updates.{update-replace, found-prefix, cleared
 use Rattle.claims.proofs.Updates.{full-is}
 use Rattle.claims.proofs.HasPrefix.{set-lacks, set-has, hasEntry-is}
 use Rattle.claims.proofs.NewEntry.{new-entry, same-next, joins, same-joins}
-use Rattle.claims.proofs.Answer.{Holding, Answered, answers-refused, answers-room}
+use Rattle.claims.proofs.Answer.{Answered, answers-refused, answers-room}
 
 module _ (W M : ℕ) (i : 1 ≤ M) (j : M ≤ maxSlots) (b : Book) (ok : BookOk W M b) (rs : List Route) (same : Same (routesIn (bookImage W M b)) rs)
-    (back : Table → State) (rest : State → Type 0) (backs : (t : Table) → Holding W M t → rest (back t))
-    (plans : (p : Plan) (t u : Table) → Holding W M t → Holding W M u → rest (planned p t u))
     (a n h : ℕ) (row : List ℕ) where
   abbrev cs : List Cell
   cs = bookImage W M b
@@ -78,14 +76,14 @@ module _ (W M : ℕ) (i : 1 ≤ M) (j : M ≤ maxSlots) (b : Book) (ok : BookOk 
   switch w = cond (hasPrefix r rs) 1 w
 
   abbrev Answers : Planned → BookAnswer → Type 0
-  Answers = Answered W M i j b ok rs same back rest backs plans (mostToSet W) row switch nextSet
+  Answers = Answered W M i j b ok rs same (mostToSet W) row switch nextSet
 
   refuse : (x y : ℕ) → Answers (refuses x y) (record { answer = refused x y; book = b })
-  refuse = answers-refused W M i j b ok rs same back rest backs plans (mostToSet W) row switch nextSet
+  refuse = answers-refused W M i j b ok rs same (mostToSet W) row switch nextSet
 
   settle : (ws : List Write) (next : Book) (w : ℕ) → Leads W M b rs ws next nextSet (switch (length ws)) → length ws ≡ w → w ≤ mostToSet W
       → Answers (withRoom room fine ws) (settled fine room w b next)
-  settle = answers-room W M i j b ok rs same back rest backs plans (mostToSet W) row switch nextSet
+  settle = answers-room W M i j b ok rs same (mostToSet W) row switch nextSet
 
   module _ (f : prefixFault W 0 a n ≡ fine) (g : hopFault 0 h ≡ fine) where
     bits : n ≤ W

@@ -11,6 +11,7 @@ use Rattle.tcam.specs.Slots.{Cell, isFree, hopIn, hits}
 use Rattle.tcam.specs.Plans.{Write, write}
 use Rattle.tcam.specs.Applies.{written}
 use Rattle.tcam.specs.Book.{countIf}
+use Rattle.claims.proofs.Twice.{Twice}
 use Rattle.claims.proofs.Times.{All, all-map, times, times-append}
 use Rattle.claims.proofs.Join.{join, around, around-is, join-assoc, both-sides, times-join}
 use Rattle.claims.proofs.Look.{first, first-append, first-turn, first-again, Apart}
@@ -45,16 +46,7 @@ module _ (W : ℕ) (last : Cell) where
   walk-times t (ends {p = p} {s = s} e) = simp (times-append t) (omega arith)
   walk-times t (step up a x xs b e u h w) = walk-times t w ∙ simp (← (times-append t)) (simp (both-sides, times-join) (omega arith))
 
--- an entry stands in two slots
-pub record Twice (cs : List Cell) : Type 0 where
-  pub front : List Cell
-  pub entry : Cell
-  pub between : List Cell
-  pub back : List Cell
-  pub is : cs ≡ front ++ (entry ∷ (between ++ (entry ∷ back)))
-  pub used : isFree entry ≡ false
-
--- so it does after each write of a walk but the last
+-- after each write of a walk but the last an entry stands in two slots
 module _ (W : ℕ) (last : Cell) where
   copied-twice : (up : Bool) (a : List Cell) (x : Cell) (xs b : List Cell) → isFree x ≡ false
       → Twice (cond up a (around up xs x b) ++ (x ∷ cond up (around up xs x b) a))

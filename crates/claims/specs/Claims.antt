@@ -24,7 +24,8 @@ pub record Claims : Type 0 where
   pub hasTable : (W : ℕ) → HasTable W
   -- From an empty table of 1 to 4,096 slots, over any sequence of planned sets, planned removals and applies, refused ones included: each
   -- answers as the book does, with its refusal or its number of writes; the table is the book's image; and every cut of every accepted
-  -- plan looks up right, for the set before and, from one named write on, for the set after.
+  -- plan looks up right, for the set before and, from one named write on, for the set after. Between its first write and its last a plan
+  -- leaves a table that breaks a rule, so that updates refuse it.
   pub demand3 : (W : ℕ) → Demand3 W
   -- A plan can be applied write by write on one table, each time from its start: the first k writes leave what they leave of the table
   -- before the plan.
@@ -33,12 +34,12 @@ pub record Claims : Type 0 where
   -- least prefix ahead, with its first slot's tag. Over any images the list rises, a prefix present in every image of a finished walk is
   -- given exactly once, and one present in none never. With the calls of demand 3 and single writes of their plans between the calls,
   -- every image is one that demand 3 speaks of and keeps S1, and no call is refused. A table that stays as it is takes at most a call more
-  -- than it has slots, and whatever is written a walk ends.
+  -- than it has slots, and over images that keep S1 a walk ends, whatever is written.
   pub download : (W : ℕ) → DownloadClaim W
   -- The board cases a to j come out as they stand on the board.
   pub board : got ≡ expected
-  -- So do the cases of the download.
-  pub downloads : DownloadCases.got ≡ DownloadCases.expected
+  -- The cases of the download come out as expected.
+  pub downloadCases : DownloadCases.got ≡ DownloadCases.expected
   -- The reader of update records accepts exactly what a writer writes, and its places lie in the input.
   pub records : (W : ℕ) → W ≤ 32 → RecordForms W
   -- The parts of a report, one after another, are the report, whatever the buffers' lengths; a buffer is refused exactly where the next

@@ -2,9 +2,9 @@
 --
 -- A walk is a list of images, one for each call: the image that this call reads. What is written between two calls is seen in the later
 -- one's image and nowhere else, so that no more need be said of it. The first call asks from the start, each other from the prefix given
--- last; the walk is finished once a call is answered by the end. The claim holds of all images whatever. It is said once more of a table
--- that starts empty, while the calls of demand 3's sequences go on, with single writes of the plan that waits and calls of the download
--- between them: there each image is one that demand 3 speaks of, each keeps S1, and no call is refused.
+-- last; the walk is finished once a call is answered by the end. What is said of a call and of a walk holds of any images. More is said of
+-- a table that starts empty, while the calls of demand 3's sequences go on, with single writes of the plan that waits and calls of the
+-- download between them: each image is one that demand 3 speaks of, each keeps S1, and no call is refused.
 use Prim.Native.Nat.{ℕ, _+_, _*_, _^_, _≤_, _<_}
 use mathlib.Core.Path.{_≡_}
 use mathlib.Core.Bool.{Bool, true, false, cond, _&&_}
@@ -15,7 +15,7 @@ use lib.ListN.{length, replicate, take, drop}
 use Rattle.route.specs.PrefixOrder.{comesBefore}
 use Rattle.route.specs.Lists.{any}
 use Rattle.route.specs.RightHop.{_∈_}
-use Rattle.tcam.specs.Slots.{maxSlots, Cell, free, keepsS1}
+use Rattle.tcam.specs.Slots.{maxSlots, Cell, keepsS1}
 use Rattle.tcam.specs.Tables.{addresses, tags}
 use Rattle.tcam.specs.Plans.{Write, Planned, refuses, writes, ofPrefix, planSet, planRemove}
 use Rattle.tcam.specs.Applies.{written}
@@ -116,26 +116,31 @@ pub record Now : Type 0 where
   pub image : Image
   pub left : List Write
 
+-- an empty table of M slots
+abbrev pub atFirst : ℕ → Now
+atFirst M = record { image = emptyTable M .image; left = [] }
+
 -- an accepted plan waits, in place of one that waited before; a refused call leaves what was
-abbrev pub afterPlan : Now → Planned → Now
-afterPlan now (refuses number place) = now
-afterPlan now (writes ws) = record { image = now .image; left = ws }
+abbrev pub nowPlanned : Now → Planned → Now
+nowPlanned now (refuses number place) = now
+nowPlanned now (writes ws) = record { image = now .image; left = ws }
 
--- a call finds the table as it is: a half-written one, where a plan was begun. An apply makes the writes that are left
-abbrev pub afterCall : ℕ → Now → Call → Now
-afterCall W now (set a n h row) = afterPlan now (planSet W (addresses (now .image)) (tags (now .image)) a n h (length row))
-afterCall W now (remove a n row) = afterPlan now (planRemove W (addresses (now .image)) (tags (now .image)) a n (length row))
-afterCall W now applyPlan = record { image = written (now .image) (now .left); left = [] }
-afterCall W now (applyRefused row k) = now
+-- a call finds the table as it is: a half-written one, where a plan was begun. An apply makes the writes that are left; an apply of the
+-- whole plan from its start would leave the same (`Reapplied`)
+abbrev pub nowCalled : ℕ → Now → Call → Now
+nowCalled W now (set a n h row) = nowPlanned now (planSet W (addresses (now .image)) (tags (now .image)) a n h (length row))
+nowCalled W now (remove a n row) = nowPlanned now (planRemove W (addresses (now .image)) (tags (now .image)) a n (length row))
+nowCalled W now applyPlan = record { image = written (now .image) (now .left); left = [] }
+nowCalled W now (applyRefused row k) = now
 
-abbrev pub afterWrite : Now → Now
-afterWrite now = record { image = written (now .image) (take 1 (now .left)); left = drop 1 (now .left) }
+abbrev pub nowWritten : Now → Now
+nowWritten now = record { image = written (now .image) (take 1 (now .left)); left = drop 1 (now .left) }
 
 -- the images that the download's calls read
 abbrev pub imagesRead : ℕ → List Event → Now → List Image
 imagesRead W [] now = []
-imagesRead W (update c ∷ es) now = imagesRead W es (afterCall W now c)
-imagesRead W (write ∷ es) now = imagesRead W es (afterWrite now)
+imagesRead W (update c ∷ es) now = imagesRead W es (nowCalled W now c)
+imagesRead W (write ∷ es) now = imagesRead W es (nowWritten now)
 imagesRead W (read ∷ es) now = now .image ∷ imagesRead W es now
 
 -- the image after so many single writes of the plan that waits, and how many it has
@@ -147,12 +152,13 @@ abbrev pub writesOf : State → ℕ
 writesOf (idle t) = 0
 writesOf (planned p t t′) = p .writes
 
--- an image that demand 3 speaks of: the table after some calls of a sequence from the empty one, or a cut of the plan that then waits
+-- an image that demand 3 speaks of: there are calls of a sequence from the empty table after which it is the table, or a cut of the plan
+-- that then waits
 pub record InSequence (W M : ℕ) (cs : Image) : Type 0 where
   pub calls : List Call
   pub made : ℕ
-  pub within : made ≤ writesOf (reached W M (emptyTable M) calls)
-  pub is : cs ≡ cutOf W (reached W M (emptyTable M) calls) made
+  pub within : made ≤ writesOf (reached W M (idle (emptyTable M)) calls)
+  pub is : cs ≡ cutOf W (reached W M (idle (emptyTable M)) calls) made
 
 -- a walk with updates between its calls: each image is one of demand 3's, each keeps S1, no call is refused, and what was said of any walk
 pub record WalkedMeanwhile (W M : ℕ) (images : List Image) : Type 0 where
@@ -178,4 +184,4 @@ pub record DownloadClaim (W : ℕ) : Type 0 where
   -- while the updates of demand 3 go on, from an empty table
   pub meanwhile :
       (M : ℕ) → 1 ≤ M → M ≤ maxSlots → (es : List Event) →
-      WalkedMeanwhile W M (imagesRead W es (record { image = replicate M free; left = [] }))
+      WalkedMeanwhile W M (imagesRead W es (atFirst M))

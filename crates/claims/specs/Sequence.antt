@@ -2,9 +2,9 @@
 --
 -- A sequence is a list of calls: planned sets, planned removals, applies of an accepted plan, and applies that are refused. The claim is
 -- a type by recursion over that list. At each set or removal it says that the plan answers as the book does; that a refused one leaves
--- the table sound; and that an accepted one is bounded and right at every cut. At each apply of a plan it says that the table is sound
--- again: the image of the book, and a table of its set; at each refused apply, that the table is as it was. The claim goes on after
--- every call.
+-- the table sound; and that an accepted one is bounded, is right at every cut, and breaks a rule at each between its first write and its
+-- last. At each apply of a plan it says that the table is sound again: the image of the book, and a table of its set; at each refused
+-- apply, that the table is as it was. The claim goes on after every call.
 use Prim.Native.Nat.{ℕ, _≤_, _<_}
 use mathlib.Core.Path.{_≡_}
 use mathlib.Core.Logic.{_≢_}
@@ -75,7 +75,7 @@ pub record Cut (W : ℕ) (p : Plan) (before next : Table) (k : ℕ) : Type 0 whe
       lookedUp W (after W (before .image) (p .row) k) q
       ≡ value (cond (ltb k (p .switch)) (answer W (before .routes) q) (answer W (next .routes) q))
 
--- an accepted plan: bounded, right answers before and after, and every cut
+-- an accepted plan: bounded, right answers before and after, every cut, and no end to it but its last write
 pub record AcceptedPlan (W most : ℕ) (p : Plan) (before next : Table) : Type 0 where
   pub bounded : p .writes ≤ most
   pub rightBefore : (q : ℕ) → Right W (before .routes) q (answer W (before .routes) q)
@@ -132,15 +132,9 @@ abbrev pub Held : ℕ → ℕ → Table → List ℕ → Request → Planned →
 Held W M t row r (refuses n p) = Sound W M (refusedTable t r)
 Held W M t row r (writes ws) = AcceptedPlan W (r .most) (planIn row r ws) t (plannedTable W t row r ws)
 
--- where it leads: refused, the calls go on where they stood, `back`; accepted, the plan waits, in place of one that waited before
-abbrev pub ledTo : ℕ → Table → List ℕ → Request → (Table → State) → Planned → State
-ledTo W t row r back (refuses n p) = back (refusedTable t r)
-ledTo W t row r back (writes ws) = planned (planIn row r ws) t (plannedTable W t row r ws)
-
--- a set or a removal answers as the book does, and leads on
-abbrev pub PlanClaim : ℕ → ℕ → Table → List ℕ → (Table → State) → (State → Type 0) → Request → Type 0
-PlanClaim W M t row back rest r =
-    (planAnswer (r .plan) ≡ r .booked .answer) × Held W M t row r (r .plan) × rest (ledTo W t row r back (r .plan))
+-- a set or a removal answers as the book does, and its plan holds
+abbrev pub PlanClaim : ℕ → ℕ → Table → List ℕ → Request → Type 0
+PlanClaim W M t row r = (planAnswer (r .plan) ≡ r .booked .answer) × Held W M t row r (r .plan)
 
 -- an apply that is refused leaves the table as it was
 abbrev pub RefusedApply : ℕ → Table → List ℕ → ℕ → Type 0
@@ -155,45 +149,43 @@ abbrev pub withTable : State → Table → State
 withTable (idle t) u = idle u
 withTable (planned p t t′) u = planned p u t′
 
--- the state that an apply of the plan that waits leads to
-abbrev pub applied : State → State
-applied (idle t) = idle t
-applied (planned p t t′) = idle t′
+-- where a plan leads: refused, the calls go on where they stood; accepted, the plan waits, in place of one that waited before
+abbrev pub afterPlan : ℕ → State → List ℕ → Request → Planned → State
+afterPlan W s row r (refuses n p) = withTable s (refusedTable (tableIn s) r)
+afterPlan W s row r (writes ws) = planned (planIn row r ws) (tableIn s) (plannedTable W (tableIn s) row r ws)
 
--- after which the table is sound again
-abbrev pub AppliedClaim : ℕ → ℕ → State → Type 0
-AppliedClaim W M (idle t) = Unit {0}
-AppliedClaim W M (planned p t t′) = Sound W M t′
+-- and an apply of the plan that waits
+abbrev pub afterApply : State → State
+afterApply (idle t) = idle t
+afterApply (planned p t t′) = idle t′
 
--- the claim about the calls that are left, at each state
+-- what is claimed of a call at each state, and the state that it leads to
+abbrev pub CallClaim : ℕ → ℕ → State → Call → Type 0
+CallClaim W M s (set a n h row) = PlanClaim W M (tableIn s) row (setRequest W M (tableIn s) a n h (length row))
+CallClaim W M s (remove a n row) = PlanClaim W M (tableIn s) row (removeRequest W M (tableIn s) a n (length row))
+CallClaim W M s applyPlan = Sound W M (tableIn (afterApply s))
+CallClaim W M s (applyRefused row k) = RefusedApply W (tableIn s) row k
+
+abbrev pub stateAfter : ℕ → ℕ → State → Call → State
+stateAfter W M s (set a n h row) = let r = setRequest W M (tableIn s) a n h (length row) in afterPlan W s row r (r .plan)
+stateAfter W M s (remove a n row) = let r = removeRequest W M (tableIn s) a n (length row) in afterPlan W s row r (r .plan)
+stateAfter W M s applyPlan = afterApply s
+stateAfter W M s (applyRefused row k) = s
+
+-- the claim about the calls that are left, and the state that some calls lead to
 abbrev pub Claim : ℕ → ℕ → List Call → State → Type 0
 Claim W M [] s = Unit {0}
-Claim W M (set a n h row ∷ cs) s =
-    PlanClaim W M (tableIn s) row (withTable s) (Claim W M cs) (setRequest W M (tableIn s) a n h (length row))
-Claim W M (remove a n row ∷ cs) s =
-    PlanClaim W M (tableIn s) row (withTable s) (Claim W M cs) (removeRequest W M (tableIn s) a n (length row))
-Claim W M (applyPlan ∷ cs) s = AppliedClaim W M s × Claim W M cs (applied s)
-Claim W M (applyRefused row k ∷ cs) s = RefusedApply W (tableIn s) row k × Claim W M cs s
-
--- the state that a call leads to, and that some calls do
-abbrev pub leads : ℕ → State → List ℕ → Request → State
-leads W s row r = ledTo W (tableIn s) row r (withTable s) (r .plan)
-
-abbrev pub next : ℕ → ℕ → State → Call → State
-next W M s (set a n h row) = leads W s row (setRequest W M (tableIn s) a n h (length row))
-next W M s (remove a n row) = leads W s row (removeRequest W M (tableIn s) a n (length row))
-next W M s applyPlan = applied s
-next W M s (applyRefused row k) = s
+Claim W M (c ∷ cs) s = CallClaim W M s c × Claim W M cs (stateAfter W M s c)
 
 abbrev pub reached : ℕ → ℕ → State → List Call → State
 reached W M s [] = s
-reached W M s (c ∷ cs) = reached W M (next W M s c) cs
+reached W M s (c ∷ cs) = reached W M (stateAfter W M s c) cs
 
--- an empty table of M slots
-abbrev pub emptyTable : ℕ → State
-emptyTable M = idle (record { image = replicate M free; book = emptyBook; routes = [] })
+-- M free slots, an empty book, no routes
+abbrev pub emptyTable : ℕ → Table
+emptyTable M = record { image = replicate M free; book = emptyBook; routes = [] }
 
 abbrev pub Demand3 : ℕ → Type 0
 Demand3 W =
     (M : ℕ) → 1 ≤ M → M ≤ maxSlots → (cs : List Call) →
-    Claim W M cs (emptyTable M)
+    Claim W M cs (idle (emptyTable M))

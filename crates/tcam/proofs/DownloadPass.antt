@@ -15,7 +15,6 @@ use Rattle.tcam.specs.Slots.{Cell, cells, isFree, lengthIn, keepsS1, siz
 use Rattle.tcam.specs.Download.{From, start, past, isToCome, isAhead, nextIn, Next, end, refusal, entryOrEnd, nextUnless, fromFault, download}
 use Rattle.tcam.specs.Loops.{cellAt, farAhead, IsLeast, IsAheadOf}
 use Rattle.route.proofs.Tests.{byTest}
-use Rattle.route.proofs.Accepted.{prefix-good}
 use Rattle.route.proofs.PrefixOrder.{by-key}
 use Rattle.tcam.proofs.Cells.{used-short}
 use Rattle.tcam.proofs.Downloads.{yields, nextFrom, NextBefore, next-stop, next-kept, next-turn, next-end}
@@ -126,10 +125,6 @@ module _ {W : ℕ} {ad ts : List ℕ} {from : From} {least nearest at i : ℕ} (
           → entryOrEnd (some (cellAt ad ts at)) ≡ nextFrom W ad ts from none 0
       go none k e = absurd (t k)
       go (some c) k e = rw (k .2) at e
-
--- a prefix without a fault is short
-pub from-short : (W a n : ℕ) → fromFault W (past a n) ≡ fine → n ≤ W
-from-short W a n f = prefix-good W 0 a n f .0
 
 -- a call whose prefix has a fault, and one whose prefix has none
 module _ (W : ℕ) (ad ts : List ℕ) (from : From) {r : Next} (s : sizeFault ad ts ≡ fine) where

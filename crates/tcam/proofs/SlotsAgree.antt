@@ -11,7 +11,8 @@ use borrow.Author.Tests.{not-false}
 use Rattle.route.specs.Rule.{Route, matches, Match, nothing, best, longest, hopOf, answer}
 use Rattle.route.specs.Refusals.{fine, faultIf, value, imageRefusal}
 use Rattle.route.specs.RightHop.{_∈_}
-use Rattle.tcam.specs.Slots.{Cell, lengthIn, isFree, cells, keepsS1, longerThanNearest, breaks, imageFault, slotFault, firstMatch, slotLookup}
+use Rattle.route.specs.Lists.{any}
+use Rattle.tcam.specs.Slots.{Cell, lengthIn, isFree, cells, keepsS1, longerThanNearest, samePrefixIn, breaks, imageFault, slotFault, firstMatch, slotLookup}
 use Rattle.tcam.specs.Tables.{routeOf, routesIn, TableOf}
 use Rattle.route.proofs.Tests.{orders, byTest, or-parts, inTurn, passed}
 use Rattle.route.proofs.RouteSet.{RouteSet}
@@ -77,29 +78,30 @@ orderedAnswer W rs cs q ok same o =
     let first = firstIsLongest W [] cs q o in
     first .hop ∙ sym (agree W rs (routesIn cs) q ok same (longest W rs q) (first .found) (finds W rs q) (first .isFound))
 
--- S1 and S2 of the first slot of an image without a fault
-slot : (W i : ℕ) (before : List Cell) (c : Cell) (cs : List Cell) → imageFault W i before (c ∷ cs) ≡ fine →
-    (keepsS1 W c ≡ true) × (isFree c ≡ false → longerThanNearest c before ≡ false) × (imageFault W (i + 1) (c ∷ before) cs ≡ fine)
+-- S1, S2 and S5 of the first slot of an image without a fault, and the others
+pub slot : (W i : ℕ) (before : List Cell) (c : Cell) (cs : List Cell) → imageFault W i before (c ∷ cs) ≡ fine →
+    (keepsS1 W c ≡ true) × (isFree c ≡ false → longerThanNearest c before ≡ false) × (isFree c ≡ false → any (samePrefixIn c) before ≡ false)
+    × (imageFault W (i + 1) (c ∷ before) cs ≡ fine)
 slot W i before c cs e =
     let t = inTurn (faultIf (breaks W c before) imageRefusal i) _ e in
     let upToS5 = passed (breaks W c before) imageRefusal i (t .0) in
-    let upToS4 = or-parts _ _ upToS5 .0 in
-    let upToS3 = or-parts _ _ upToS4 .0 in
+    let S5 = or-parts _ _ upToS5 in
+    let upToS3 = or-parts _ _ (S5 .0) .0 in
     let upToS2 = or-parts _ _ upToS3 .0 in
     let h = or-parts (not (keepsS1 W c)) _ upToS2 in
-    (not-false (keepsS1 W c) (h .0), λ u. rw u at (h .1), t .1)
+    (not-false (keepsS1 W c) (h .0), (λ u. rw u at (h .1)), (λ u. rw u at (S5 .1)), t .1)
 
 pub imageOrdered : (W i : ℕ) (before cs : List Cell) → imageFault W i before cs ≡ fine → Ordered before cs
 imageOrdered W i before [] e = tt
 imageOrdered W i before (c ∷ cs) e =
     let h = slot W i before c cs e in
-    (h .1, imageOrdered W (i + 1) (c ∷ before) cs (h .2))
+    (h .1, imageOrdered W (i + 1) (c ∷ before) cs (h .3))
 
 pub imageKeepsS1 : (W i j : ℕ) (before cs : List Cell) → imageFault W i before cs ≡ fine → slotFault W j cs ≡ fine
 imageKeepsS1 W i j before [] e = refl
 imageKeepsS1 W i j before (c ∷ cs) e =
     let h = slot W i before c cs e in
-    rw (h .0) (imageKeepsS1 W (i + 1) (j + 1) (c ∷ before) cs (h .2))
+    rw (h .0) (imageKeepsS1 W (i + 1) (j + 1) (c ∷ before) cs (h .3))
 
 pub slotsAgree : (W : ℕ) (rs : List Route) (q : ℕ) → RouteSet W rs → (ad ts : List ℕ) → TableOf W rs ad ts →
     slotLookup W ad ts q ≡ value (answer W rs q)

@@ -3,6 +3,10 @@
 // A call is one pass, and nothing is kept from one call to the next, so updates may go on between
 // two calls. Each slot is tested; of the entries still to come the first in order is kept, and of
 // two slots with one prefix the earlier one.
+//
+// Prefixes are compared by their keys. How far a key is ahead of the least one still to come is a
+// wrapping difference, so that one comparison tells both whether an entry is still to come and
+// whether it is nearer than the one kept.
 ghost use mathlib.Core.Path.{_≡_};
 ghost use Prim.Native.Nat.{_≤_};
 ghost use lib.ListN.{length};
@@ -59,7 +63,7 @@ impl From {
     }
 }
 
-// Farther ahead than any entry.
+// Farther ahead than any entry: keys are below 2^38, and this is 2^40.
 const FAR_AHEAD: u64 = 1099511627776;
 
 // How far ahead of the key `least` a key is: a smaller one, taken round, is farther than any entry.
@@ -70,8 +74,8 @@ fn ahead_of(least: u64, key: u64) -> u64
     std::num::wrapping_sub_u64(key, least)
 }
 
-// S1 of each slot, and the next entry, of those whose keys are not below `least`: the slot is kept at
-// which the nearest was found.
+// S1 of each slot, and of the entries whose keys are not below `least` the nearest, whose slot is
+// kept.
 fn next_in(addresses: &[u32], tags: &[u32], least: u64) -> Next
     requires { ⌜ (length (now addresses) ≡ length (now tags)) × (least ≤ farAhead) ⌝ }
     ensures { λ r. ⌜ NextByKeys 32 (cells (now (addresses .entry)) (now (tags .entry))) least (nextOf r) ⌝ }
