@@ -67,19 +67,21 @@ module _ (W M : ℕ) (i : 1 ≤ M) (j : M ≤ maxSlots) where
       subst (λ t. PlanHolds W M t row (request t)) (table-is h) (call (t .book) (h .ok) (t .routes) (h .same))
 
   -- so it is claimed, and what the calls keep is kept
-  set-keeps : (a n hop : ℕ) (row : List ℕ) (t : Table) → Holding W M t → PlanHolds W M t row (setRequest W M t a n hop (length row))
-  set-keeps a n hop row = planning row (λ t. setRequest W M t a n hop (length row)) (λ b ok rs same. set-call W M i j b ok rs same a n hop row)
+  set-holds : (a n hop : ℕ) (row : List ℕ) (t : Table) → Holding W M t → PlanHolds W M t row (setRequest W M t a n hop (length row))
+  set-holds a n hop row = planning row (λ t. setRequest W M t a n hop (length row)) (λ b ok rs same. set-call W M i j b ok rs same a n hop row)
 
-  remove-keeps : (a n : ℕ) (row : List ℕ) (t : Table) → Holding W M t → PlanHolds W M t row (removeRequest W M t a n (length row))
-  remove-keeps a n row = planning row (λ t. removeRequest W M t a n (length row)) (λ b ok rs same. remove-call W M i j b ok rs same a n row)
+  remove-holds : (a n : ℕ) (row : List ℕ) (t : Table) → Holding W M t → PlanHolds W M t row (removeRequest W M t a n (length row))
+  remove-holds a n row = planning row (λ t. removeRequest W M t a n (length row)) (λ b ok rs same. remove-call W M i j b ok rs same a n row)
 
   call-claim : (c : Call) (s : State) → HoldingIn W M s → CallClaim W M s c × HoldingIn W M (stateAfter W M s c)
   call-claim (set a n hop row) s h =
-      let k = set-keeps a n hop row (tableIn s) (table-holding W M s h) in
-      ((k .0, k .1), plan-holding W M s row _ _ h (k .2))
+      let r = setRequest W M (tableIn s) a n hop (length row) in
+      let k = set-holds a n hop row (tableIn s) (table-holding W M s h) in
+      ((k .0, k .1), plan-holding W M s row r (r .plan) h (k .2))
   call-claim (remove a n row) s h =
-      let k = remove-keeps a n row (tableIn s) (table-holding W M s h) in
-      ((k .0, k .1), plan-holding W M s row _ _ h (k .2))
+      let r = removeRequest W M (tableIn s) a n (length row) in
+      let k = remove-holds a n row (tableIn s) (table-holding W M s h) in
+      ((k .0, k .1), plan-holding W M s row r (r .plan) h (k .2))
   call-claim applyPlan s h = let k = apply-holding W M s h in (sound i j (table-holding W M (afterApply s) k), k)
   call-claim (applyRefused row k) s h = (untouched W (tableIn s .image) row k, h)
 
