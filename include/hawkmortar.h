@@ -171,12 +171,12 @@ struct hawkmortar_outcome hawkmortar_apply(
     size_t k);
 
 /*
- * The download: a table's entries, one to a call, in order of address, then length. Nothing is kept between two
- * calls and nothing is locked: a program that makes calls and single slot writes in turn may write what it likes of
- * accepted plans between two calls. The walk then rises; a prefix in the table at every call of a walk that comes to
- * its end is given exactly once, one that is there at none is never given, and one that comes or goes meanwhile may
- * be given or not. A call that runs while a slot is being written reads an image that no plan leaves; keep calls and
- * writes apart.
+ * * The download: a table's entries, one to a call, in order of address, then length. Nothing is kept between two
+ * calls and nothing is locked: a program that makes calls and single slot writes in turn may write what it likes
+ * of accepted plans between two calls. The prefixes given then rise; a prefix in the table at every call of a walk
+ * that comes to its end is given exactly once, one that is there at none is never given, and one that comes or
+ * goes meanwhile may be given or not. A call that runs while a slot is being written may read an image that no
+ * plan leaves; keep calls and writes apart.
  */
 
 /*

@@ -220,23 +220,30 @@ fn locked_reader(page: &mut String) -> Result<(), Refusal> {
     Ok(())
 }
 
-/// 11. A download of the board's table: a prefix is removed before the walk comes to it, one moves, one is added behind its place.
+/// 11. A download of the board's table, with a set and a removal on its way: a prefix moves to a slot that was read, one is added that
+/// comes before the one given last, one is removed before the walk comes to it.
 fn download_while_updates_go_on(page: &mut String) -> Result<(), Refusal> {
     line(page, "11. A download while updates go on");
     let mut table = board()?;
     let mut walk = Download::new();
-    call(page, &mut walk, &table)?;
-    call(page, &mut walk, &table)?;
-    let plan = table.plan_remove(prefix("10.20.4.0/24"))?;
-    for k in 1..=plan.len() {
-        table.apply(&plan, k)?;
-        line(page, &format!("remove 10.20.4.0/24, write {k}: {}", written(&plan, k)));
+    for _ in 0..3 {
         call(page, &mut walk, &table)?;
     }
-    let plan = table.plan_set(prefix("10.10.0.0/16"), hop(5))?;
-    table.apply(&plan, plan.len())?;
-    line(page, &format!("set 10.10.0.0/16 5, write 1: {}", written(&plan, 1)));
+    let set = table.plan_set(prefix("10.10.0.0/25"), hop(5))?;
+    write(page, &mut table, "set 10.10.0.0/25 5", &set, 1)?;
+    write(page, &mut table, "set 10.10.0.0/25 5", &set, 2)?;
+    call(page, &mut walk, &table)?;
+    write(page, &mut table, "set 10.10.0.0/25 5", &set, 3)?;
+    let remove = table.plan_remove(prefix("10.20.4.9/32"))?;
+    write(page, &mut table, "remove 10.20.4.9/32", &remove, 1)?;
     call(page, &mut walk, &table)
+}
+
+/// One write of a plan.
+fn write(page: &mut String, table: &mut Table, name: &str, plan: &Plan, k: usize) -> Result<(), Refusal> {
+    table.apply(plan, k)?;
+    line(page, &format!("{name}, write {k}: {}", written(plan, k)));
+    Ok(())
 }
 
 /// A step of a walk, and the slots as it saw them.

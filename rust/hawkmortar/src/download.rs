@@ -9,7 +9,7 @@
 //! prefixes: that is why the walk goes by prefix and not by slot.
 //!
 //! It is for a program that makes its steps and its writes in turn, each on the image that the last one left: one thread, or several
-//! that take turns. A step takes as long as a lookup does.
+//! that take turns. A step reads the whole table, as a lookup does.
 //!
 //! ```
 //! use hawkmortar::{Download, NextHop, Prefix, Refusal, Table};
@@ -27,7 +27,7 @@
 //!     table.set(prefix, NextHop::new(hop).unwrap())?;
 //! }
 //!
-//! // the /24 is removed while the table is read out, a write behind each step: the /16 moves to the slot of the /24
+//! // the /24 is removed while the table is read out, a write after each step: the /16 moves to the slot of the /24
 //! let plan = table.plan_remove(prefix(10, 20, 4, 0, 24)?)?;
 //! let mut walk = Download::new();
 //! let mut given = Vec::new();
@@ -74,12 +74,12 @@ impl Download {
         Download { last: Some(prefix) }
     }
 
-    /// The prefix given last, if one was.
+    /// The prefix that the next step asks past, if there is one: the one given last, or that of [`Download::after`].
     pub const fn last(&self) -> Option<Prefix> {
         self.last
     }
 
-    /// The next route of the table as it is now, `None` at the end. A step behind the end asks once more past the prefix given last.
+    /// The next route of the table as it is now, `None` at the end. A step after the end asks once more past the prefix given last.
     /// A [`Table`] refuses no step.
     pub fn next(&mut self, table: &Table) -> Result<Option<Route>, Refusal> {
         self.next_in(table.addresses(), table.tags())

@@ -22,7 +22,7 @@ impl Outcome {
         }
     }
 
-    /// Whether the value is 1, where 0 is the other one, or the refusal.
+    /// True for the value 1, false for 0, or the refusal.
     #[inline]
     pub fn flag(self) -> Result<bool, Refusal> {
         self.count().map(|value| match value {

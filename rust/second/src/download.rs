@@ -1,7 +1,7 @@
 //! The download: the prefixes of an image one by one, in order of address, then length.
 //!
 //! The entries of the whole image are put in that order, a prefix that stands in several slots as often as it does, its first slot
-//! first. The answer is the first entry behind the prefix asked from.
+//! first. The answer is the first entry past the prefix asked from.
 
 use crate::list::entry_fault;
 use crate::slots::{entries, valid, Image};
@@ -32,8 +32,8 @@ fn in_order(addresses: &[u32], tags: &[u32]) -> Result<Vec<Entry>, Fault> {
     Ok(list)
 }
 
-/// The first of entries in order that is behind a prefix, or the first of all from the start; or the prefix's refusal.
-fn behind(list: &[Entry], from: Option<Prefix>) -> Answer {
+/// The first of entries in order that is past a prefix, or the first of all from the start; or the prefix's refusal.
+fn past(list: &[Entry], from: Option<Prefix>) -> Answer {
     let Some((address, length)) = from else {
         return Ok(list.first().copied());
     };
@@ -44,10 +44,10 @@ fn behind(list: &[Entry], from: Option<Prefix>) -> Answer {
     Ok(list.iter().copied().find(|&entry| prefix_of(entry) > (address, length)))
 }
 
-/// The answers for some prefixes asked from, where none is the start: the first entry of an image that is behind each.
+/// The answers for some prefixes asked from, where none is the start: the first entry of an image that is past each.
 pub fn nexts(addresses: &[u32], tags: &[u32], asked: &[Option<Prefix>]) -> Vec<Answer> {
     match in_order(addresses, tags) {
-        Ok(list) => asked.iter().map(|&from| behind(&list, from)).collect(),
+        Ok(list) => asked.iter().map(|&from| past(&list, from)).collect(),
         Err(fault) => vec![Err(fault); asked.len()],
     }
 }

@@ -283,7 +283,7 @@ fn random_image(random: &mut Random, kind: usize, slots: usize) -> Image {
     image
 }
 
-/// The answer in the words of the change request: of the prefixes behind the one asked from the least, with its first slot's tag.
+/// The answer in the words of the change request: of the prefixes past the one asked from the least, with its first slot's tag.
 fn in_words(image: &Image, from: Option<(u32, u32)>) -> Option<Entry> {
     let cells = image.addresses.iter().zip(&image.tags);
     let used = || cells.clone().filter(|&(_, &tag)| tag != 0);
@@ -354,7 +354,7 @@ fn images_of_4096_asked_from_every_entry() {
         }
         let answers = nexts(&image, &asked);
         assert!(answers.iter().all(Result::is_ok));
-        // from each entry the next, and behind the last the end
+        // from each entry the next, and past the last the end
         let chain = answers
             .iter()
             .skip(1)
@@ -727,12 +727,12 @@ impl Updated {
     }
 }
 
-/// A cursor over a `Table` with writes between its steps gives what the calls give on rows with the same writes, also behind the end. It
+/// A cursor over a `Table` with writes between its steps gives what the calls give on rows with the same writes, also after the end. It
 /// does the same over lent rows, and stays where it is at a refusal.
 #[test]
 fn a_cursor_does_what_the_calls_do() {
     let mut random = Random::new(17);
-    let (mut steps, mut half_written, mut after, mut behind_the_end, mut refused) = (0, 0, 0, 0, 0);
+    let (mut steps, mut half_written, mut after, mut after_the_end, mut refused) = (0, 0, 0, 0, 0);
     for round in 0..600 {
         let slots = 1 + random.below(40) as usize;
         let supply = supply(&mut random, slots);
@@ -787,12 +787,12 @@ fn a_cursor_does_what_the_calls_do() {
                 }
                 Some(entry) => {
                     after += usize::from(round % 3 == 0);
-                    behind_the_end += usize::from(ends > 0);
+                    after_the_end += usize::from(ends > 0);
                     from = Some(prefix_of(entry));
                 }
             }
         }
     }
-    let counts = [steps, half_written, after, behind_the_end, refused];
+    let counts = [steps, half_written, after, after_the_end, refused];
     assert!(counts.iter().all(|&count| count > 100), "{counts:?}");
 }

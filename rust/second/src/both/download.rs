@@ -159,7 +159,7 @@ impl Walk {
         self.given.last().copied().map(prefix_of)
     }
 
-    /// Whether a prefix is behind the one given last.
+    /// Whether a prefix is past the one given last.
     fn is_ahead(&self, prefix: Prefix) -> bool {
         Some(prefix) > self.last()
     }
@@ -186,7 +186,7 @@ impl Walk {
         let given = answer.unwrap_or_else(|fault| panic!("{fault:?} from {last:?} in {image:?}"));
         if let Some(entry) = given {
             let prefix = prefix_of(entry);
-            assert!(self.is_ahead(prefix), "{prefix:?} is given behind {last:?}");
+            assert!(self.is_ahead(prefix), "{prefix:?} is given after {last:?}");
             let first = slots_of(image, prefix).next().expect("a prefix given is there");
             assert_eq!(entry[2], image.tags[first], "the tag of {prefix:?}");
             self.given.push(entry);
@@ -352,7 +352,7 @@ impl<'a> Run<'a> {
         self.count_walk(&walk);
     }
 
-    /// What comes behind a prefix, or behind the start, in the set.
+    /// What comes past a prefix, or from the start on, in the set.
     fn ahead(&self, from: Option<Prefix>) -> Option<Entry> {
         let mut ahead = self.set.range((from.map_or(Unbounded, Excluded), Unbounded));
         let ((address, length), hop) = ahead.next()?;
