@@ -3,7 +3,8 @@
  * Then the list as one row of prefixes: the outcome of its test, each answer on a line, case e, and the outcomes of
  * lists with a repeated prefix, a length too large, a hop of 0 and no entry. Then case f, sets in 8 slots: each plan's
  * outcome, and the image. Then case g, a removal: the plan's outcome, the answer for 10.20.4.10 after each number of
- * its writes, and the image. Then case h, ranges: the outcome of a build with a cell of room too few, that of a build
+ * its writes, and the image. Then its download: the outcome of each call up to the end and of one past no prefix, with
+ * the three numbers after it. Then case h, ranges: the outcome of a build with a cell of room too few, that of a build
  * with room for all, the ranges, and each answer on a line. Then cases i and j, the DXR table with and without the
  * /32: the outcome of the build, the main word of chunk 2580, its range words, which are all there are, and each
  * answer on a line. Then the report's records: the outcome of each call up to the end of the input, of one past it and
@@ -67,6 +68,28 @@ static void show_image(void)
     show(hawkmortar_slot_check(slot_addresses, SLOTS, slot_tags, SLOTS));
     for (size_t slot = 0; slot < SLOTS; slot++)
         printf("%zu %08" PRIx32 " %08" PRIx32 "\n", slot, slot_addresses[slot], slot_tags[slot]);
+}
+
+static void show_entry(struct hawkmortar_outcome given, const uint32_t *entry)
+{
+    show(given);
+    printf("%08" PRIx32 " %" PRIu32 " %08" PRIx32 "\n", entry[0], entry[1], entry[2]);
+}
+
+static int show_download(void)
+{
+    uint32_t entry[3] = {0, 0, 0};
+    struct hawkmortar_outcome given =
+        hawkmortar_download_first(slot_addresses, SLOTS, slot_tags, SLOTS, entry);
+    while (given.refusal == 0 && given.value == 1) {
+        show_entry(given, entry);
+        given = hawkmortar_download_next(slot_addresses, SLOTS, slot_tags, SLOTS, entry[0], entry[1], entry);
+    }
+    show_entry(given, entry);
+    if (given.refusal != 0)
+        return 1;
+    show_entry(hawkmortar_download_next(slot_addresses, SLOTS, slot_tags, SLOTS, 1, 8, entry), entry);
+    return 0;
 }
 
 static struct hawkmortar_outcome build(const uint32_t *addresses, size_t room)
@@ -166,6 +189,8 @@ int main(void)
         show(hawkmortar_slot_lookup(slot_addresses, SLOTS, slot_tags, SLOTS, ip(10, 20, 4, 10)));
     }
     show_image();
+    if (show_download() != 0)
+        return 1;
     if (show_ranges(addresses, keys) != 0)
         return 1;
 

@@ -31,6 +31,22 @@ const AFTER_REMOVAL: &str = "\
 7 00000000 00000007
 ";
 
+/// The outcome of each call and the three numbers after it. The fifth is the end, the last is refused.
+const DOWNLOAD: &str = "\
+0 1
+00000000 0 00000007
+0 1
+0a000000 8 00080001
+0 1
+0a140000 16 00100002
+0 1
+0a140409 32 00200002
+0 0
+0a140409 32 00200002
+2 0
+0a140409 32 00200002
+";
+
 /// Each range's start and hop.
 const RANGES: &str = "\
 00000000 7
@@ -113,7 +129,7 @@ fn a_c_program_over_the_header_answers_the_board() {
     let sets = "0 1\n0 1\n0 2\n0 3\n0 2\n";
     let removal = "0 2\n0 3\n0 2\n0 2\n";
     let builds = "9 0\n0 9\n";
-    let slots = format!("{sets}{AFTER_SETS}{removal}{AFTER_REMOVAL}");
+    let slots = format!("{sets}{AFTER_SETS}{removal}{AFTER_REMOVAL}{DOWNLOAD}");
     let ranges = format!("{builds}{RANGES}{answers}");
     let answers_without_32 = "0 3\n0 3\n0 2\n0 7\n";
     let dxr = format!("{CHUNK}{answers}{CHUNK_WITHOUT_32}{answers_without_32}");
