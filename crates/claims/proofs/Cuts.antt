@@ -1,4 +1,5 @@
--- What every plan comes to: its writes can be made, the whole of them leads to the next book's image, and every cut looks up right.
+-- What every plan comes to: its writes can be made, the whole of them leads to the next book's image, every cut looks up right, and between
+-- the first write and the last a rule is broken.
 use Prim.Native.Nat.{ℕ, suc, zero, _≤_, _<_}
 use mathlib.Core.Path.{_≡_, refl, sym, ap, _∙_}
 use mathlib.Core.Logic.{_≢_}

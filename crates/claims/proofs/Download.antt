@@ -148,6 +148,10 @@ pub downloadClaim : (W : ℕ) → DownloadClaim W
 downloadClaim W = record {
   right = asked-says W;
   walks = walked W;
+  unread = λ images all s. record {
+    once = λ f a n p. walked W images .once f a n (λ cs m. p cs (s cs m));
+    never = λ a n p. walked W images .never a n (λ cs m. p cs (s cs m));
+  };
   keeping = λ images k. unrefused W images start refl k;
   cuts = λ p before next k c. looked-up-keeps W _ 0 (c .looksUp 0);
   still = still W;

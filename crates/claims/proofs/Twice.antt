@@ -22,6 +22,7 @@ pub record Twice (cs : List Cell) : Type 0 where
 
 module _ (W : ℕ) where
   module _ (x : Cell) (u : isFree x ≡ false) where
+    -- a used slot has its own prefix
     itself : samePrefixIn x x ≡ true
     itself = rw (u, eq-eqb (x .address) (x .address) refl) (eq-eqb (lengthIn x) (lengthIn x) refl)
 

@@ -92,6 +92,11 @@ pub record Walked (W : ℕ) (images : List Image) : Type 0 where
   pub once : end ∈ walk W images → (a n : ℕ) → Each (λ cs. isPresent a n cs ≡ true) images → timesGiven a n (walk W images) ≡ 1
   pub never : (a n : ℕ) → Each (λ cs. isPresent a n cs ≡ false) images → timesGiven a n (walk W images) ≡ 0
 
+-- the same by all images that there were while the walk went on, of which its calls read some
+pub record WalkedAmong (W : ℕ) (images all : List Image) : Type 0 where
+  pub once : end ∈ walk W images → (a n : ℕ) → Each (λ cs. isPresent a n cs ≡ true) all → timesGiven a n (walk W images) ≡ 1
+  pub never : (a n : ℕ) → Each (λ cs. isPresent a n cs ≡ false) all → timesGiven a n (walk W images) ≡ 0
+
 -- no call is refused
 abbrev pub Unrefused : List Next → Type 0
 Unrefused rs = (number place : ℕ) → refusal number place ∈ rs → ⊥
@@ -172,6 +177,8 @@ pub record DownloadClaim (W : ℕ) : Type 0 where
   pub right : (cs : Image) (from : From) → Says cs from (asked W cs from)
   -- of any walk: it rises, and gives what is present in every image once and what is present in none never
   pub walks : (images : List Image) → Walked W images
+  -- and so by all images that there were, those between two calls that no call read included
+  pub unread : (images all : List Image) → Each (λ cs. cs ∈ all) images → WalkedAmong W images all
   -- any images that keep S1 will do, and each cut that demand 3 speaks of does
   pub keeping : (images : List Image) → Each (KeepsS1 W) images → Unrefused (walk W images)
   pub cuts : (p : Plan) (before next : Table) (k : ℕ) → Cut W p before next k → KeepsS1 W (after W (before .image) (p .row) k)

@@ -75,7 +75,7 @@ pub record Cut (W : ℕ) (p : Plan) (before next : Table) (k : ℕ) : Type 0 whe
       lookedUp W (after W (before .image) (p .row) k) q
       ≡ value (cond (ltb k (p .switch)) (answer W (before .routes) q) (answer W (next .routes) q))
 
--- an accepted plan: bounded, right answers before and after, every cut, and no end to it but its last write
+-- an accepted plan: bounded, right answers before and after, every cut, and a broken rule between its first write and its last
 pub record AcceptedPlan (W most : ℕ) (p : Plan) (before next : Table) : Type 0 where
   pub bounded : p .writes ≤ most
   pub rightBefore : (q : ℕ) → Right W (before .routes) q (answer W (before .routes) q)
@@ -187,5 +187,4 @@ emptyTable M = record { image = replicate M free; book = emptyBook; routes = [] 
 
 abbrev pub Demand3 : ℕ → Type 0
 Demand3 W =
-    (M : ℕ) → 1 ≤ M → M ≤ maxSlots → (cs : List Call) →
-    Claim W M cs (idle (emptyTable M))
+    (M : ℕ) → 1 ≤ M → M ≤ maxSlots → (cs : List Call) → Claim W M cs (idle (emptyTable M))
