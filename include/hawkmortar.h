@@ -171,7 +171,7 @@ struct hawkmortar_outcome hawkmortar_apply(
     size_t k);
 
 /*
- * * The download: a table's entries, one to a call, in order of address, then length. Nothing is kept between two
+ * The download: a table's entries, one to a call, in order of address, then length. Nothing is kept between two
  * calls and nothing is locked: a program that makes calls and single slot writes in turn may write what it likes
  * of accepted plans between two calls. The prefixes given then rise; a prefix in the table at every call of a walk
  * that comes to its end is given exactly once, one that is there at none is never given, and one that comes or
