@@ -12,7 +12,7 @@ use native.Mathlib.Omega.{arith}
 use lib.ListN.{length, length-replicate, replicate}
 use Rattle.route.specs.RightHop.{_∈_}
 use Rattle.route.specs.Refusals.{fine}
-use Rattle.tcam.specs.Slots.{Cell, isFree, lengthIn, keepsS1}
+use Rattle.tcam.specs.Slots.{Cell, isFree, lengthIn}
 use Rattle.tcam.specs.Tables.{addresses}
 use Rattle.tcam.specs.Plans.{ofPrefix}
 use Rattle.tcam.specs.Download.{From, start, past, isToCome, isAhead, nextIn, end, refusal, entryOrEnd, fromFault}
@@ -22,7 +22,7 @@ use Rattle.route.proofs.PrefixOrder.{byOrder, before-trans, not-itself}
 use Rattle.claims.specs.Agreement.{Addresses}
 use Rattle.claims.specs.Download.{Image, asked, onward, walkFrom, walk, Each, isPresent, Says, Unrefused, KeepsS1, atFirst, DownloadClaim}
 use Rattle.claims.proofs.Times.{All, all-copies, times, times-mono, times-most}
-use Rattle.claims.proofs.Members.{member}
+use Rattle.claims.proofs.Members.{all-of, member}
 use Rattle.claims.proofs.Apply.{Keeps, cells-back, no-size-fault, no-slot-fault}
 use Rattle.claims.proofs.NextEntry.{prefix-is, asked-says, tag-present, present-address, present-valid, looked-up-keeps}
 use Rattle.claims.proofs.DownloadWalk.{later, walked}
@@ -50,12 +50,8 @@ module _ (from : From) (a n : ℕ) (t : isToCome from a n ≡ true) where
 
 module _ (W : ℕ) where
   -- an image that keeps S1, slot by slot
-  keep-each : (cs : List Cell) → ((c : Cell) → c ∈ cs → keepsS1 W c ≡ true) → All (Keeps W) cs
-  keep-each [] k = tt
-  keep-each (c ∷ cs) k = (k c (List·Memᴰ·head refl), keep-each cs (λ d m. k d (List·Memᴰ·tail m)))
-
   all-keep : (cs : Image) → KeepsS1 W cs → All (Keeps W) cs
-  all-keep cs h = keep-each cs (h .keeps)
+  all-keep cs h = all-of (Keeps W) cs (h .keeps)
 
   -- what it answers
   module _ (cs : Image) (h : KeepsS1 W cs) (from : From) (f : fromFault W from ≡ fine) where

@@ -194,7 +194,7 @@ module _ (W M : ℕ) (i : 1 ≤ M) (j : M ≤ maxSlots) where
       (sym (written-append (tableIn t .image) (take (s .made) ws) (drop (s .made) ws)) ∙ ap (written (tableIn t .image)) (take-append-drop (s .made) ws)))
       (sym (none-left W t))
 
-  -- a plan made to its end was afterApply
+  -- a plan made to its end has been applied
   abbrev stands-ended : {now : Now} (s : Stands W M now) → s .made ≡ writesOf (s .state) → Stands W M now
   stands-ended s e =
       let t = s .state in

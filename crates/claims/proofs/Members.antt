@@ -16,6 +16,10 @@ use Rattle.route.proofs.Tests.{neither, both, all-three}
 use Rattle.claims.proofs.Times.{All, times}
 
 module _ {A : Type 0} where
+  pub all-of : (P : A → Type 0) (xs : List A) → ((x : A) → List·Memᴰ x xs → P x) → All P xs
+  all-of P [] h = tt
+  all-of P (x ∷ xs) h = (h x (List·Memᴰ·head refl), all-of P xs (λ y m. h y (List·Memᴰ·tail m)))
+
   pub member : (P : A → Type 0) {x : A} {xs : List A} → All P xs → List·Memᴰ x xs → P x
   member P a (List·Memᴰ·head e) = subst P (sym e) (a .0)
   member P a (List·Memᴰ·tail m) = member P (a .1) m
