@@ -18,7 +18,7 @@ use Rattle.route.proofs.Tests.{and-parts, all-three, not-both, either, clash, i
 use Rattle.claims.proofs.Times.{All, all-copies, all-append, all-map}
 use Rattle.claims.proofs.Members.{member, any-none}
 use Rattle.claims.proofs.Row.{IsEntry, Row, row-others, row-rest}
-use Rattle.claims.proofs.Rows.{rows-all, rows-every, run-all}
+use Rattle.claims.proofs.Rows.{rows-all, rows-every, lengths-all}
 use Rattle.claims.proofs.Lies.{upperLengths, lowerLengths}
 use Rattle.claims.proofs.Image.{upper, lower, entries-length, BookOk}
 
@@ -94,7 +94,7 @@ module _ {W : ℕ} where
   )
 
   rows-ranked : (b : Book) → ((l : ℕ) → Row W l (b l)) → (k l : ℕ) → All (Ranked l (l + k)) (rows b (falling k l))
-  rows-ranked b ok k l = rows-all b _ (falling k l) (run-all false _ k l (λ m x y. all-map _ _ (entry-ranked l (l + k) x y) (b m) (ok m .entries)))
+  rows-ranked b ok k l = rows-all b _ (falling k l) (lengths-all false _ k l (λ m x y. all-map _ _ (entry-ranked l (l + k) x y) (b m) (ok m .entries)))
 
   rows-pairs : (b : Book) → ((l : ℕ) → Row W l (b l)) → (k l : ℕ) → Pairs (Fits W) (rows b (falling k l))
   rows-pairs b ok zero l = tt

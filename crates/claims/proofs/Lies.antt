@@ -10,11 +10,11 @@ use borrow.Author.Tests.{leb-true, leb-false, ltb-true, lt-ltb, le-ltb, le-leb}
 use Rattle.tcam.specs.Slots.{Cell, isFree}
 use Rattle.tcam.specs.Plans.{falling, chain, openAfter, setAbsent, removeBy, removePresent}
 use Rattle.tcam.specs.Book.{isUpperLength, between, lengths}
-use Rattle.tcam.specs.Loops.{edgeOf, run, edge}
+use Rattle.tcam.specs.Loops.{edgeOf, lengths, edge}
 use Rattle.route.proofs.Tests.{both, not-both, byTest}
 use Rattle.claims.proofs.Times.{All}
 use Rattle.claims.proofs.Join.{join, around}
-use Rattle.claims.proofs.Rows.{falling-split, run-all}
+use Rattle.claims.proofs.Rows.{falling-split, lengths-all}
 
 -- a number from lo on and below hi
 in-range : (lo hi m : ℕ) → lo ≤ m → m < hi → (leb lo m && ltb m hi) ≡ true
@@ -48,9 +48,9 @@ pub record Lies (W n : ℕ) : Type 0 where
   pub inside : All (Other W n true) (falling count from)
   pub across : All (Other W n false) (cond side (lowerLengths W) (upperLengths W))
   pub own : between W n n ≡ false
-  pub sets : (cs : List Cell) (c : Cell) → setAbsent W cs n c ≡ chain (edgeOf side cs) cs (run side count from) (openAfter 0 (edge side isFree cs)) c
+  pub sets : (cs : List Cell) (c : Cell) → setAbsent W cs n c ≡ chain (edgeOf side cs) cs (lengths side count from) (openAfter 0 (edge side isFree cs)) c
   pub removes : (cs : List Cell) (s : ℕ)
-      → removePresent W cs n s ≡ removeBy (edgeOf (not side) cs) cs (run (not side) count from) s (openAfter s (edgeOf (not side) cs n))
+      → removePresent W cs n s ≡ removeBy (edgeOf (not side) cs) cs (lengths (not side) count from) s (openAfter s (edgeOf (not side) cs n))
 
 falling-about : (j k l n : ℕ) → l + k ≡ n → falling (j + suc k) l ≡ falling j (n + 1) ++ (n ∷ falling k l)
 falling-about j k l n e =
@@ -69,9 +69,9 @@ module _ (W n : ℕ) where
         let e : W - W / 2 + 1 ≡ W - n + suc (n - W / 2) = omega arith in
         rw e (falling-about (W - n) (n - W / 2) (W / 2) n (omega arith));
     within = omega arith;
-    beyond = run-all false _ (W - n) (n + 1) (λ m x y. (omega arith, rw upper (out-range (W / 2) n m (λ j k. omega arith))));
-    inside = run-all false _ (n - W / 2) (W / 2) (λ m x y. (omega arith, rw upper (in-range (W / 2) n m x (omega arith))));
-    across = run-all false _ (W / 2) 0 (λ m x y. (omega arith, rw upper (out-range (W / 2) n m (λ j k. omega arith))));
+    beyond = lengths-all false _ (W - n) (n + 1) (λ m x y. (omega arith, rw upper (out-range (W / 2) n m (λ j k. omega arith))));
+    inside = lengths-all false _ (n - W / 2) (W / 2) (λ m x y. (omega arith, rw upper (in-range (W / 2) n m x (omega arith))));
+    across = lengths-all false _ (W / 2) 0 (λ m x y. (omega arith, rw upper (out-range (W / 2) n m (λ j k. omega arith))));
     own = rw (upper, le-ltb n n (le-refl n));
     sets = λ cs c. rw upper;
     removes = λ cs s. rw upper;
@@ -89,9 +89,9 @@ module _ (W n : ℕ) where
         ap (λ (k : ℕ). falling k 0) e ∙ falling-about (W / 2 - 1 - n) n 0 n (zero-add n)
         ∙ sym (append-assoc (falling (W / 2 - 1 - n) (n + 1)) (n ∷ []) (falling n 0));
     within = omega arith;
-    beyond = run-all false _ n 0 (λ m x y. (omega arith, rw lower (out-range (suc n) (W / 2) m (λ j k. omega arith))));
-    inside = run-all false _ (W / 2 - 1 - n) (n + 1) (λ m x y. (omega arith, rw lower (in-range (suc n) (W / 2) m (omega arith) (omega arith))));
-    across = run-all false _ (W - W / 2 + 1) (W / 2) (λ m x y. (omega arith, rw lower (out-range (suc n) (W / 2) m (λ j k. omega arith))));
+    beyond = lengths-all false _ n 0 (λ m x y. (omega arith, rw lower (out-range (suc n) (W / 2) m (λ j k. omega arith))));
+    inside = lengths-all false _ (W / 2 - 1 - n) (n + 1) (λ m x y. (omega arith, rw lower (in-range (suc n) (W / 2) m (omega arith) (omega arith))));
+    across = lengths-all false _ (W - W / 2 + 1) (W / 2) (λ m x y. (omega arith, rw lower (out-range (suc n) (W / 2) m (λ j k. omega arith))));
     own = rw (lower, le-ltb n n (le-refl n));
     sets = λ cs c. rw lower;
     removes = λ cs s. rw lower;

@@ -9,10 +9,10 @@ use lib.ListN.{length, length-set}
 use lib.Seq.{sets}
 use Rattle.tcam.specs.Slots.{Cell, maxSlots, cells}
 use Rattle.tcam.specs.Plans.{Write, write, firstSlot, lastSlot, isSome, openAfter, chain, numbers}
-use Rattle.tcam.specs.Loops.{cellAt, edge, edgeOf, run, lengthAt, lengthsOf, ShorterBy, chainOf, moves, slotIn, EdgesOf}
-use Rattle.tcam.specs.declared.plan.Run.{Run}
+use Rattle.tcam.specs.Loops.{cellAt, edge, edgeOf, lengths, lengthAt, lengthsOf, ShorterBy, chainOf, moves, slotIn, EdgesOf}
+use Rattle.tcam.specs.declared.plan.Lengths.{Lengths}
 use Rattle.tcam.proofs.Rows.{length-cells, getD-cells}
-use Rattle.tcam.proofs.Runs.{run-none}
+use Rattle.tcam.proofs.Lengths.{lengths-none}
 
 -- a slot that was found is one of the table's
 first-bound : (p : Cell → Bool) (i s : ℕ) (cs : List Cell) → firstSlot p i cs ≡ some s → s < i + length cs
@@ -64,28 +64,28 @@ length-chain edge cs (l ∷ ls) at c = go (edge l) refl (λ a. length-chain edge
     go none e ih = rw e (omega (arith, ih at))
     go (some s) e ih = rw e (omega (arith, ih s))
 
--- two edges that agree on a run's lengths give as many moves
-moves-agree : (f g : ℕ → Option ℕ) (up : Bool) (k l : ℕ) → ((m : ℕ) → m < l + k → f m ≡ g m) → moves f (run up k l) ≡ moves g (run up k l)
+-- two edges that agree on the lengths give as many moves
+moves-agree : (f g : ℕ → Option ℕ) (up : Bool) (k l : ℕ) → ((m : ℕ) → m < l + k → f m ≡ g m) → moves f (lengths up k l) ≡ moves g (lengths up k l)
 moves-agree f g true zero l h = refl
 moves-agree f g true (suc k) l h = rw (h l (omega arith), moves-agree f g true k (l + 1) (λ m i. h m (omega arith)))
 moves-agree f g false zero l h = refl
 moves-agree f g false (suc k) l h = rw (h (l + k) (omega arith), moves-agree f g false k l (λ m i. h m (omega arith)))
 
 -- so a chain has one write more than were counted in the row of edge slots
-pub chain-length : {W : ℕ} {cs : List Cell} {row : List ℕ} {m : ℕ} (r : Run) → EdgesOf W (r .up) cs row → r .from .0 + r .count ≤ W + 1 →
+pub chain-length : {W : ℕ} {cs : List Cell} {row : List ℕ} {m : ℕ} (r : Lengths) → EdgesOf W (r .up) cs row → r .from .0 + r .count ≤ W + 1 →
     m ≡ moves (slotIn row) (lengthsOf r) → (at : ℕ) (c : Cell) → m + 1 ≡ length (chainOf r cs at c)
 chain-length {cs = cs} r e i f at c =
     ap (λ (x : ℕ). x + 1) (f ∙ moves-agree _ _ (r .up) (r .count) (r .from .0) (λ m l. e .of m (omega arith)))
     ∙ sym (length-chain (edgeOf (r .up) cs) cs (lengthsOf r) at c)
 
 -- so many moves were counted, and the lengths that are left give the rest
-pub record CountedMoves (edge : ℕ → Option ℕ) (r₀ r : Run) (w : ℕ) : Type 0 where
+pub record CountedMoves (edge : ℕ → Option ℕ) (r₀ r : Lengths) (w : ℕ) : Type 0 where
   pub within : r .from .0 + r .count ≤ 33
   pub few : w + r .count ≤ r₀ .count
   pub left : w + moves edge (lengthsOf r) ≡ moves edge (lengthsOf r₀)
 
-module _ {edge : ℕ → Option ℕ} {r₀ r : Run} {w : ℕ} (h : CountedMoves edge r₀ r w) where
-  pub moves-turn : {next : Run} {l n : ℕ} {o : Option ℕ} → l ≡ lengthAt (r .up) (r .count) (r .from .0) → o ≡ edge l →
+module _ {edge : ℕ → Option ℕ} {r₀ r : Lengths} {w : ℕ} (h : CountedMoves edge r₀ r w) where
+  pub moves-turn : {next : Lengths} {l n : ℕ} {o : Option ℕ} → l ≡ lengthAt (r .up) (r .count) (r .from .0) → o ≡ edge l →
       n ≡ cond (isSome o) 1 0 → n ≤ 1 → ShorterBy r next → CountedMoves edge r₀ next (w + n)
   moves-turn {n = n} f e g i s =
       let here : n ≡ cond (isSome (edge (lengthAt (r .up) (r .count) (r .from .0)))) 1 0 = rw (← f, ← e) g in
@@ -96,11 +96,11 @@ module _ {edge : ℕ → Option ℕ} {r₀ r : Run} {w : ℕ} (h : CountedMoves 
       }
 
   pub moves-end : r .count ≤ 0 → w ≡ moves edge (lengthsOf r₀)
-  moves-end m = omega (arith, rw (run-none (r .up) (r .count) (r .from .0) m) at (h .left))
+  moves-end m = omega (arith, rw (lengths-none (r .up) (r .count) (r .from .0) m) at (h .left))
 
 -- w writes are in the plan; the lengths that are left and the last write give the rest of the row that is wanted, in which the chain
 -- begins at write `start`
-pub record ChainPut (W : ℕ) (ad ts row : List ℕ) (c : Cell) (all : List Write) (start : ℕ) (plan₀ plan : List ℕ) (r : Run) (at w : ℕ) : Type 0 where
+pub record ChainPut (W : ℕ) (ad ts row : List ℕ) (c : Cell) (all : List Write) (start : ℕ) (plan₀ plan : List ℕ) (r : Lengths) (at w : ℕ) : Type 0 where
   pub equal : length ad ≡ length ts
   pub few : length ad ≤ maxSlots
   pub edges : EdgesOf W (r .up) (cells ad ts) row
@@ -111,13 +111,13 @@ pub record ChainPut (W : ℕ) (ad ts row : List ℕ) (c : Cell) (all : List Writ
   pub count : w + length (chainOf r (cells ad ts) at c) ≡ start + length all
   pub left : sets plan (3 * w) (numbers (chainOf r (cells ad ts) at c)) ≡ sets plan₀ (3 * start) (numbers all)
 
-module _ {W : ℕ} {ad ts row : List ℕ} {c : Cell} {all : List Write} {start : ℕ} {plan₀ plan : List ℕ} {r : Run} {at w : ℕ}
+module _ {W : ℕ} {ad ts row : List ℕ} {c : Cell} {all : List Write} {start : ℕ} {plan₀ plan : List ℕ} {r : Lengths} {at w : ℕ}
     (h : ChainPut W ad ts row c all start plan₀ plan r at w) where
   module _ {l : ℕ} (f : l ≡ lengthAt (r .up) (r .count) (r .from .0)) (b : l < r .from .0 + r .count) {o : Option ℕ} (e : o ≡ slotIn row l) where
     here : edgeOf (r .up) (cells ad ts) (lengthAt (r .up) (r .count) (r .from .0)) ≡ o
     here = sym (e ∙ h .edges .of l (omega (arith, h .within)) ∙ ap (edgeOf (r .up) (cells ad ts)) f)
 
-    module _ {next : Run} (s : ShorterBy r next) where
+    module _ {next : Lengths} (s : ShorterBy r next) where
       edges-next : EdgesOf W (next .up) (cells ad ts) row
       edges-next = rw (s .same) (h .edges)
 
@@ -168,7 +168,7 @@ module _ {W : ℕ} {ad ts row : List ℕ} {c : Cell} {all : List Write} {start :
 
   module _ (m : r .count ≤ 0) where
     ends : chainOf r (cells ad ts) at c ≡ write at c ∷ []
-    ends = rw (run-none (r .up) (r .count) (r .from .0) m)
+    ends = rw (lengths-none (r .up) (r .count) (r .from .0) m)
 
     pub chain-last : 3 * w + 3 ≤ length plan
     chain-last = omega (arith, h .room, h .size, rw ends at (h .count))

@@ -3,13 +3,13 @@ pub mod Cells
 pub mod Rows
 pub mod SlotsAgree
 pub mod Sizes
--- The loops, by family: the image test, the lookup, the download, the writes of a plan, runs of lengths and edge slots, chains.
+-- The loops, by family: the image test, the lookup, the download, the writes of a plan, lengths in turn and edge slots, chains.
 pub mod Images
 pub mod Scans
 pub mod Downloads
 pub mod DownloadPass
 pub mod Writes
-pub mod Runs
+pub mod Lengths
 pub mod Edges
 pub mod Chains
 -- The code's answers.

@@ -16,8 +16,8 @@ use Rattle.route.specs.Refusals.{Answer, value, refused, fine, roomRefusal, ful
 use Rattle.tcam.specs.Slots.{Cell, isFree, free}
 use Rattle.tcam.specs.Plans.{Write, Planned, refuses, writes, withRoom, numbers, IsPlanned, write, chain, removeBy}
 use Rattle.tcam.specs.Plans.{firstSlot, lastSlot, firstOf, lastOf, rising, falling, orElse, isSome, openAfter, setAt, removePresent}
-use Rattle.tcam.specs.Loops.{edge, edgeOf, run, runTo, lengthsOf, chainOf}
-use Rattle.tcam.specs.declared.plan.Run.{Run}
+use Rattle.tcam.specs.Loops.{edge, edgeOf, lengths, lengthsTo, lengthsOf, chainOf}
+use Rattle.tcam.specs.declared.plan.Lengths.{Lengths}
 
 pub length-numbers : (ws : List Write) → length (numbers ws) ≡ 3 * length ws
 length-numbers [] = refl
@@ -75,26 +75,26 @@ module _ (W : ℕ) (cs : List Cell) (n : ℕ) (c : Cell) (room : ℕ) where
       let f : isSome (firstSlot isFree 0 cs) ≡ false = some-edge up isFree cs ∙ ap isSome e in
       rw f
 
-  pub set-chain : {up : Bool} {s : ℕ} (r : Run) → up ≡ leb (W / 2) n → edge up isFree cs ≡ some s → r .up ≡ up → lengthsOf r ≡ runTo W up n →
+  pub set-chain : {up : Bool} {s : ℕ} (r : Lengths) → up ≡ leb (W / 2) n → edge up isFree cs ≡ some s → r .up ≡ up → lengthsOf r ≡ lengthsTo W up n →
       setAt W cs n c room none ≡ withRoom room fine (chainOf r cs s c)
   set-chain {up} {s} r u e g l =
       let f : isSome (firstSlot isFree 0 cs) ≡ true = some-edge up isFree cs ∙ ap isSome e in
-      let same : chain (edgeOf up cs) cs (runTo W up n) s c ≡ chainOf r cs s c = rw (l, g) in
+      let same : chain (edgeOf up cs) cs (lengthsTo W up n) s c ≡ chainOf r cs s c = rw (l, g) in
       rw f (ap (withRoom room fine) (go (leb (W / 2) n) u ∙ same))
     where
       go : (t : Bool) → up ≡ t →
           cond t (chain (firstOf cs) cs (rising (n - W / 2) (W / 2)) (openAfter 0 (firstSlot isFree 0 cs)) c)
           (chain (lastOf cs) cs (falling (W / 2 - 1 - n) (n + 1)) (openAfter 0 (lastSlot isFree 0 cs)) c)
-          ≡ chain (edgeOf up cs) cs (cond t (run up (n - W / 2) (W / 2)) (run up (W / 2 - 1 - n) (n + 1))) s c
+          ≡ chain (edgeOf up cs) cs (cond t (lengths up (n - W / 2) (W / 2)) (lengths up (W / 2 - 1 - n) (n + 1))) s c
       go true q = let e′ = rw q at e in rw (q, e′)
       go false q = let e′ = rw q at e in rw (q, e′)
 
 -- and a removal
 module _ (W : ℕ) (cs : List Cell) (n : ℕ) where
-  pub erase-chain : {up : Bool} {t : ℕ} (s : ℕ) (r : Run) → up ≡ ltb n (W / 2) → r .up ≡ up → lengthsOf r ≡ runTo W up n → t ≡ openAfter s (edgeOf up cs n) →
+  pub erase-chain : {up : Bool} {t : ℕ} (s : ℕ) (r : Lengths) → up ≡ ltb n (W / 2) → r .up ≡ up → lengthsOf r ≡ lengthsTo W up n → t ≡ openAfter s (edgeOf up cs n) →
       removePresent W cs n s ≡ removeBy (edgeOf (r .up) cs) cs (lengthsOf r) s t
   erase-chain {up} {t} s r u g l e =
-      let same : removeBy (edgeOf up cs) cs (runTo W up n) s (openAfter s (edgeOf up cs n)) ≡ removeBy (edgeOf (r .up) cs) cs (lengthsOf r) s t = rw (e, l, g) in
+      let same : removeBy (edgeOf up cs) cs (lengthsTo W up n) s (openAfter s (edgeOf up cs n)) ≡ removeBy (edgeOf (r .up) cs) cs (lengthsOf r) s t = rw (e, l, g) in
       go (leb (W / 2) n) (u ∙ below) ∙ same
     where
       below : ltb n (W / 2) ≡ not (leb (W / 2) n)
@@ -102,6 +102,6 @@ module _ (W : ℕ) (cs : List Cell) (n : ℕ) where
 
       go : (b : Bool) → up ≡ not b → cond b (removeBy (lastOf cs) cs (falling (n - W / 2) (W / 2)) s (openAfter s (lastOf cs n)))
           (removeBy (firstOf cs) cs (rising (W / 2 - 1 - n) (n + 1)) s (openAfter s (firstOf cs n)))
-          ≡ removeBy (edgeOf up cs) cs (cond b (run up (n - W / 2) (W / 2)) (run up (W / 2 - 1 - n) (n + 1))) s (openAfter s (edgeOf up cs n))
+          ≡ removeBy (edgeOf up cs) cs (cond b (lengths up (n - W / 2) (W / 2)) (lengths up (W / 2 - 1 - n) (n + 1))) s (openAfter s (edgeOf up cs n))
       go true q = rw q
       go false q = rw q

@@ -14,7 +14,7 @@ use Rattle.tcam.specs.Slots.{Cell, cell, cells, maxSlots, slotFault, isF
 use Rattle.tcam.specs.Plans.{Write, write, firstSlot, lastSlot, ofLength, rising, falling, isSome, chain}
 use Rattle.tcam.specs.Download.{From, isToCome, nextIn, Next, entryOrEnd, nextUnless}
 use Rattle.tcam.specs.declared.image.Seen.{Seen}
-use Rattle.tcam.specs.declared.plan.Run.{Run}
+use Rattle.tcam.specs.declared.plan.Lengths.{Lengths}
 
 -- slot i of two rows
 abbrev pub cellAt : List ℕ → List ℕ → ℕ → Cell
@@ -55,7 +55,7 @@ pub record FreeEnd (ad ts : List ℕ) (from r : ℕ) : Type 0 where
   pub free : any isUsed (placesFrom (cellAt ad ts) from (r - from)) ≡ false
   pub used : r < length ad → isFree (cellAt ad ts r) ≡ false
 
--- the four runs of lengths are one: the first slots of rising lengths, or the last slots of falling ones
+-- both sides of the pool are one: the first slots of rising lengths, or the last slots of falling ones
 abbrev pub edge : Bool → (Cell → Bool) → List Cell → Option ℕ
 edge true p cs = firstSlot p 0 cs
 edge false p cs = lastSlot p 0 cs
@@ -63,31 +63,32 @@ edge false p cs = lastSlot p 0 cs
 abbrev pub edgeOf : Bool → List Cell → ℕ → Option ℕ
 edgeOf up cs l = edge up (ofLength l) cs
 
-abbrev pub run : Bool → ℕ → ℕ → List ℕ
-run true k l = rising k l
-run false k l = falling k l
+-- k lengths from l on, rising or falling
+abbrev pub lengths : Bool → ℕ → ℕ → List ℕ
+lengths true k l = rising k l
+lengths false k l = falling k l
 
 -- the lengths between length n and the pool
-abbrev pub runTo : ℕ → Bool → ℕ → List ℕ
-runTo W up n = cond (leb (W / 2) n) (run up (n - W / 2) (W / 2)) (run up (W / 2 - 1 - n) (n + 1))
+abbrev pub lengthsTo : ℕ → Bool → ℕ → List ℕ
+lengthsTo W up n = cond (leb (W / 2) n) (lengths up (n - W / 2) (W / 2)) (lengths up (W / 2 - 1 - n) (n + 1))
 
 -- the first of k lengths from l on
 abbrev pub lengthAt : Bool → ℕ → ℕ → ℕ
 lengthAt true k l = l
 lengthAt false k l = l + (k - 1)
 
-abbrev pub lengthsOf : Run → List ℕ
-lengthsOf r = run (r .up) (r .count) (r .from .0)
+abbrev pub lengthsOf : Lengths → List ℕ
+lengthsOf r = lengths (r .up) (r .count) (r .from .0)
 
--- a run of lengths without its first
-pub record ShorterBy (r next : Run) : Type 0 where
+-- lengths in turn without the first
+pub record ShorterBy (r next : Lengths) : Type 0 where
   pub same : next .up ≡ r .up
   pub is : lengthsOf r ≡ lengthAt (r .up) (r .count) (r .from .0) ∷ lengthsOf next
   pub less : suc (next .count) ≡ r .count
   pub within : next .from .0 + next .count ≤ r .from .0 + r .count
 
--- the copies of a run's edge entries, then the last cell
-abbrev pub chainOf : Run → List Cell → ℕ → Cell → List Write
+-- the copies of the lengths' edge entries, then the last cell
+abbrev pub chainOf : Lengths → List Cell → ℕ → Cell → List Write
 chainOf r cs at last = chain (edgeOf (r .up) cs) cs (lengthsOf r) at last
 
 -- how many of the lengths have an edge slot

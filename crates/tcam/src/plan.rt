@@ -1,8 +1,8 @@
 // Planned updates: the writes that set or remove a prefix, put into a lent row.
 //
 // The table is tested, the prefix is sought, and one pass over the slots finds every length's edge
-// slot. Sets and removals, above the pool and below it, are then one chain of copies: for each length
-// of a run, in turn, its edge entry goes to the open slot, and its own slot is open next. The writes
+// slot. Sets and removals, above the pool and below it, are then one chain of copies: for each of some
+// lengths, in turn, its edge entry goes to the open slot, and its own slot is open next. The writes
 // are counted first, so that a row without room for them is left as it was.
 ghost use mathlib.Core.Path.{_≡_};
 ghost use mathlib.Core.Bool.{cond};
@@ -18,7 +18,7 @@ ghost use Rattle.route.specs.Shown.{counted};
 ghost use Rattle.tcam.specs.Slots.{maxSlots, cells, slotFault};
 ghost use Rattle.tcam.specs.Plans.{firstSlot, ofPrefix, openAfter, isSome, removeBy, removePresent, setAt, withRoom, write, numbers, planSet, planRemove, IsPlanned};
 ghost use Rattle.tcam.specs.Shown.{cellOf, placeOf};
-ghost use Rattle.tcam.specs.Loops.{slotIn, EdgesOf, visited, lengthAt, lengthsOf, runTo, moves, edgeOf, chainOf, ShorterBy, TableRows};
+ghost use Rattle.tcam.specs.Loops.{slotIn, EdgesOf, visited, lengthAt, lengthsOf, lengthsTo, moves, edgeOf, chainOf, ShorterBy, TableRows};
 use crate::Planned;
 use crate::image::table_check;
 use crate::slots::Cell;
@@ -63,27 +63,27 @@ impl Place {
 }
 
 // Lengths in turn: `count` of them from `from` on, rising, or else falling.
-pub struct Run {
+pub struct Lengths {
     pub up: bool,
     pub count: u32,
     pub from: Length,
 }
 
-impl Run {
+impl Lengths {
     // The lengths between length n and the pool.
-    fn to(up: bool, n: Length) -> Run
+    fn to(up: bool, n: Length) -> Lengths
         requires { ⌜ n .0 ≤ 32 ⌝ }
-        ensures { λ r. ⌜ (lengthsOf r ≡ runTo 32 up (n .0)) × (r .up ≡ up) × (r .from .0 + r .count ≤ 33) ⌝ }
+        ensures { λ r. ⌜ (lengthsOf r ≡ lengthsTo 32 up (n .0)) × (r .up ≡ up) × (r .from .0 + r .count ≤ 33) ⌝ }
     {
         let l = n.0;
         if 16 <= l {
-            return Run {
+            return Lengths {
                 up,
                 count: l - 16,
                 from: Length(16),
             };
         }
-        Run {
+        Lengths {
             up,
             count: 15 - l,
             from: Length(l + 1),
@@ -103,19 +103,19 @@ impl Run {
     }
 
     // The lengths after the first.
-    fn rest(self) -> Run
+    fn rest(self) -> Lengths
         requires { ⌜ (0 < self .count) × (self .from .0 + self .count ≤ 33) ⌝ }
         ensures { λ r. ⌜ ShorterBy self r ⌝ }
     {
         let from = self.from;
         if self.up {
-            return Run {
+            return Lengths {
                 up: true,
                 count: self.count - 1,
                 from: Length(from.0 + 1),
             };
         }
-        Run {
+        Lengths {
             up: false,
             count: self.count - 1,
             from,
@@ -180,12 +180,12 @@ fn edge_in(edges: &[u32], g: Group) -> Place
     Place::At(Slot((s - 1) as usize))
 }
 
-// How many lengths of a run have an edge slot.
-fn count_moves(edges: &[u32], run: Run) -> usize
-    requires { ⌜ (length (now edges) ≡ 34) × (run .from .0 + run .count ≤ 33) ⌝ }
-    ensures { λ r. ⌜ (r ≡ moves (slotIn (now (edges .entry))) (lengthsOf run)) × (r ≤ run .count) ⌝ }
+// How many of the lengths have an edge slot.
+fn count_moves(edges: &[u32], lengths: Lengths) -> usize
+    requires { ⌜ (length (now edges) ≡ 34) × (lengths .from .0 + lengths .count ≤ 33) ⌝ }
+    ensures { λ r. ⌜ (r ≡ moves (slotIn (now (edges .entry))) (lengthsOf lengths)) × (r ≤ lengths .count) ⌝ }
 {
-    let mut left = run;
+    let mut left = lengths;
     let mut moved = 0;
     while 0 < left.count {
         moved += edge_in(edges, left.first()).count();
@@ -206,23 +206,23 @@ fn put_write(plan: &mut [u32], w: usize, s: Slot, c: Cell)
     plan[at + 2] = c.tag;
 }
 
-// The copies of a run's edge entries, from write `start` of a plan on, then the last cell.
+// The copies of the lengths' edge entries, from write `start` of a plan on, then the last cell.
 fn put_chain(
     addresses: &[u32],
     tags: &[u32],
     edges: &[u32],
-    run: Run,
+    lengths: Lengths,
     pool: Slot,
     last: Cell,
     start: usize,
     plan: &mut [u32],
 )
     requires { ⌜ (length (now addresses) ≡ length (now tags)) × (length (now addresses) ≤ maxSlots) × (pool .0 < length (now addresses)) ⌝ }
-    requires { ⌜ EdgesOf 32 (run .up) (cells (now addresses) (now tags)) (now edges) × (run .from .0 + run .count ≤ 33) ⌝ }
-    requires { ⌜ 3 * (start + length (chainOf run (cells (now addresses) (now tags)) (pool .0) (cellOf last))) ≤ length (now plan) ⌝ }
-    ensures { λ r. ⌜ now (plan .exit) ≡ sets (now (plan .entry)) (3 * start) (numbers (chainOf run (cells (now (addresses .entry)) (now (tags .entry))) (pool .0) (cellOf last))) ⌝ }
+    requires { ⌜ EdgesOf 32 (lengths .up) (cells (now addresses) (now tags)) (now edges) × (lengths .from .0 + lengths .count ≤ 33) ⌝ }
+    requires { ⌜ 3 * (start + length (chainOf lengths (cells (now addresses) (now tags)) (pool .0) (cellOf last))) ≤ length (now plan) ⌝ }
+    ensures { λ r. ⌜ now (plan .exit) ≡ sets (now (plan .entry)) (3 * start) (numbers (chainOf lengths (cells (now (addresses .entry)) (now (tags .entry))) (pool .0) (cellOf last))) ⌝ }
 {
-    let mut left = run;
+    let mut left = lengths;
     let mut vacant = pool;
     let mut w = start;
     while 0 < left.count {
@@ -244,20 +244,20 @@ fn plan_chain(
     addresses: &[u32],
     tags: &[u32],
     edges: &[u32],
-    run: Run,
+    lengths: Lengths,
     pool: Slot,
     last: Cell,
     plan: &mut [u32],
 ) -> Planned
     requires { ⌜ (length (now addresses) ≡ length (now tags)) × (length (now addresses) ≤ maxSlots) × (pool .0 < length (now addresses)) ⌝ }
-    requires { ⌜ EdgesOf 32 (run .up) (cells (now addresses) (now tags)) (now edges) × (run .from .0 + run .count ≤ 33) ⌝ }
-    ensures { λ r. ⌜ IsPlanned (withRoom (length (now (plan .entry))) fine (chainOf run (cells (now (addresses .entry)) (now (tags .entry))) (pool .0) (cellOf last))) (now (plan .entry)) (counted r) (now (plan .exit)) ⌝ }
+    requires { ⌜ EdgesOf 32 (lengths .up) (cells (now addresses) (now tags)) (now edges) × (lengths .from .0 + lengths .count ≤ 33) ⌝ }
+    ensures { λ r. ⌜ IsPlanned (withRoom (length (now (plan .entry))) fine (chainOf lengths (cells (now (addresses .entry)) (now (tags .entry))) (pool .0) (cellOf last))) (now (plan .entry)) (counted r) (now (plan .exit)) ⌝ }
 {
-    let writes = count_moves(edges, run) + 1;
+    let writes = count_moves(edges, lengths) + 1;
     if plan.len() < 3 * writes {
         return Counted::Refused(Refusal::Room);
     }
-    put_chain(addresses, tags, edges, run, pool, last, 0, plan);
+    put_chain(addresses, tags, edges, lengths, pool, last, 0, plan);
     Counted::Count(writes)
 }
 
@@ -267,26 +267,26 @@ fn plan_gap(
     addresses: &[u32],
     tags: &[u32],
     edges: &[u32],
-    run: Run,
+    lengths: Lengths,
     s: Slot,
     edge: Slot,
     plan: &mut [u32],
 ) -> Planned
     requires { ⌜ (length (now addresses) ≡ length (now tags)) × (length (now addresses) ≤ maxSlots) × (s .0 < length (now addresses)) × (edge .0 < length (now addresses)) ⌝ }
-    requires { ⌜ EdgesOf 32 (run .up) (cells (now addresses) (now tags)) (now edges) × (run .from .0 + run .count ≤ 33) ⌝ }
-    ensures { λ r. ⌜ IsPlanned (withRoom (length (now (plan .entry))) fine (removeBy (edgeOf (run .up) (cells (now (addresses .entry)) (now (tags .entry)))) (cells (now (addresses .entry)) (now (tags .entry))) (lengthsOf run) (s .0) (edge .0))) (now (plan .entry)) (counted r) (now (plan .exit)) ⌝ }
+    requires { ⌜ EdgesOf 32 (lengths .up) (cells (now addresses) (now tags)) (now edges) × (lengths .from .0 + lengths .count ≤ 33) ⌝ }
+    ensures { λ r. ⌜ IsPlanned (withRoom (length (now (plan .entry))) fine (removeBy (edgeOf (lengths .up) (cells (now (addresses .entry)) (now (tags .entry)))) (cells (now (addresses .entry)) (now (tags .entry))) (lengthsOf lengths) (s .0) (edge .0))) (now (plan .entry)) (counted r) (now (plan .exit)) ⌝ }
 {
     let free = Cell { address: 0, tag: 0 };
     if s.0 == edge.0 {
-        return plan_chain(addresses, tags, edges, run, edge, free, plan);
+        return plan_chain(addresses, tags, edges, lengths, edge, free, plan);
     }
-    let total = count_moves(edges, run) + 2;
+    let total = count_moves(edges, lengths) + 2;
     if plan.len() < 3 * total {
         return Counted::Refused(Refusal::Room);
     }
     let moved = cell_at(addresses, tags, edge);
     put_write(plan, 0, s, moved);
-    put_chain(addresses, tags, edges, run, edge, free, 1, plan);
+    put_chain(addresses, tags, edges, lengths, edge, free, 1, plan);
     Counted::Count(total)
 }
 
@@ -303,7 +303,7 @@ fn insert(addresses: &[u32], tags: &[u32], n: Length, c: Cell, plan: &mut [u32])
     let Place::At(s) = edge else {
         return Counted::Refused(Refusal::Full);
     };
-    plan_chain(addresses, tags, &edges, Run::to(up, n), s, c, plan)
+    plan_chain(addresses, tags, &edges, Lengths::to(up, n), s, c, plan)
 }
 
 // The plan that replaces the entry of slot s, where its tag differs.
@@ -331,7 +331,7 @@ fn erase(addresses: &[u32], tags: &[u32], n: Length, s: Slot, plan: &mut [u32]) 
     let mut edges = [0; 34];
     find_edges(addresses, tags, up, &mut edges);
     let edge = edge_in(&edges, Group::of_length(n)).or(s);
-    plan_gap(addresses, tags, &edges, Run::to(up, n), s, edge, plan)
+    plan_gap(addresses, tags, &edges, Lengths::to(up, n), s, edge, plan)
 }
 
 // Plans a set: the writes, or refusal 8, 7, 1, 2, 3, 5 or 9, in this order.

@@ -6,10 +6,10 @@ use Rattle.tcam.proofs.plan.count_moves.Statement.{statement}
 use Rattle.tcam.proofs.plan.count_moves.Tie as tie
 
 abbrev Inv-loop : tie.InvT-loop
-Inv-loop edges run moved₀ left moved = CountedMoves (slotIn edges) run left moved
+Inv-loop edges lengths moved₀ left moved = CountedMoves (slotIn edges) lengths left moved
 
 abbrev μ-loop : tie.MeasureT-loop
-μ-loop edges run moved₀ left moved = left .count
+μ-loop edges lengths moved₀ left moved = left .count
 
 loop-holds : tie.Need-loop-holds Inv-loop μ-loop
 loop-holds c = record { within = search needs; few = search needs; left = search needs }

@@ -18,12 +18,12 @@ module _ (c : tie.After-count-moves) where
   abbrev chained : List Write
   chained =
       let a = c .before .before .before .before .before .args in
-      chainOf (a .run) (cells (a .addresses .now) (a .tags .now)) (a .pool .0) (cellOf (a .last))
+      chainOf (a .lengths) (cells (a .addresses .now) (a .tags .now)) (a .pool .0) (cellOf (a .last))
 
   many : c .count-moves .result + 1 ≡ length chained
   many =
       let s = c .before .before .before .before .before in
-      chain-length (s .args .run) (s .pre .1 .0) (s .pre .1 .1) (c .count-moves .ensures .0) (s .args .pool .0) (cellOf (s .args .last))
+      chain-length (s .args .lengths) (s .pre .1 .0) (s .pre .1 .1) (c .count-moves .ensures .0) (s .args .pool .0) (cellOf (s .args .last))
 
 returns : tie.Need-returns
 returns c = no-room (chained (c .before)) (many (c .before)) (search needs)

@@ -27,17 +27,17 @@ module _ (c : tie.After-count-moves) where
   abbrev chained : List Write
   chained =
       write (start .args .s .0) (cellAt (start .args .addresses .now) (start .args .tags .now) (start .args .edge .0))
-      ∷ chainOf (start .args .run) table (start .args .edge .0) free
+      ∷ chainOf (start .args .lengths) table (start .args .edge .0) free
 
   many : c .count-moves .result + 2 ≡ length chained
   many =
       let a = start .args in
-      omega (arith, chain-length (a .run) (start .pre .1 .0) (start .pre .1 .1) (c .count-moves .ensures .0) (a .edge .0) free)
+      omega (arith, chain-length (a .lengths) (start .pre .1 .0) (start .pre .1 .1) (c .count-moves .ensures .0) (a .edge .0) free)
 
-  gapped : removeBy (edgeOf (start .args .run .up) table) table (lengthsOf (start .args .run)) (start .args .s .0) (start .args .edge .0) ≡ chained
+  gapped : removeBy (edgeOf (start .args .lengths .up) table) table (lengthsOf (start .args .lengths)) (start .args .s .0) (start .args .edge .0) ≡ chained
   gapped =
       let a = start .args in
-      gap-elsewhere (edgeOf (a .run .up) table) table (lengthsOf (a .run)) (c .before .if1 .left)
+      gap-elsewhere (edgeOf (a .lengths .up) table) table (lengthsOf (a .lengths)) (c .before .if1 .left)
       ∙ rw (getD-cells (a .addresses .now) (a .tags .now) (a .edge .0) (search needs) (search needs))
 
 returns : tie.Need-returns
@@ -45,7 +45,7 @@ returns c =
     let t = c .before .before .before .before in
     let a = t .before .before .before .before .before .before .before .args in
     let cs = cells (a .addresses .now) (a .tags .now) in
-    planned-same (ap (withRoom (length (a .plan .now)) fine) (gap-at-edge (edgeOf (a .run .up) cs) cs (lengthsOf (a .run)) (t .if1 .taken)))
+    planned-same (ap (withRoom (length (a .plan .now)) fine) (gap-at-edge (edgeOf (a .lengths .up) cs) cs (lengthsOf (a .lengths)) (t .if1 .taken)))
     (c .before .before .plan-chain .ensures)
 
 returns-2 : tie.Need-returns-2
@@ -67,7 +67,7 @@ returns-3 c =
     planned-same (ap (withRoom (length (a .plan .now)) fine) (gapped k))
     (planned-put (chained k) (many k) (search needs)
     ((rw (w .put-write .ensures) at (p .put-chain .ensures))
-    ∙ ap (λ (d : Cell). sets (a .plan .now) 0 (a .s .0 ∷ d .address ∷ d .tag ∷ numbers (chainOf (a .run) (table k) (a .edge .0) free))) (w .before .before .cell-at .ensures)))
+    ∙ ap (λ (d : Cell). sets (a .plan .now) 0 (a .s .0 ∷ d .address ∷ d .tag ∷ numbers (chainOf (a .lengths) (table k) (a .edge .0) free))) (w .before .before .cell-at .ensures)))
 
 pub plan-gap-spec : {M : Type 1} → statement M
 plan-gap-spec =

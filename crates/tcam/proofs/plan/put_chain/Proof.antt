@@ -12,11 +12,11 @@ use Rattle.tcam.proofs.plan.put_chain.Statement.{statement}
 use Rattle.tcam.proofs.plan.put_chain.Tie as tie
 
 abbrev Inv-loop : tie.InvT-loop
-Inv-loop addresses tags edges last start plan₀ run pool w₀ plan left vacant w =
-    ChainPut 32 addresses tags edges (cellOf last) (chainOf run (cells addresses tags) (pool .0) (cellOf last)) start plan₀ plan left (vacant .0) w
+Inv-loop addresses tags edges last start plan₀ lengths pool w₀ plan left vacant w =
+    ChainPut 32 addresses tags edges (cellOf last) (chainOf lengths (cells addresses tags) (pool .0) (cellOf last)) start plan₀ plan left (vacant .0) w
 
 abbrev μ-loop : tie.MeasureT-loop
-μ-loop addresses tags edges last start plan₀ run pool w₀ plan left vacant w = left .count
+μ-loop addresses tags edges last start plan₀ lengths pool w₀ plan left vacant w = left .count
 
 loop-holds : tie.Need-loop-holds Inv-loop μ-loop
 loop-holds c =

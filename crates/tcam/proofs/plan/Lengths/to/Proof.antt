@@ -2,8 +2,8 @@
 use borrow.Author.Needs.{needs}
 use mathlib.Core.Path.{refl}
 use Rattle.route.proofs.Tests.{tests}
-use Rattle.tcam.proofs.plan.Run.to.Statement.{statement}
-use Rattle.tcam.proofs.plan.Run.to.Tie as tie
+use Rattle.tcam.proofs.plan.Lengths.to.Statement.{statement}
+use Rattle.tcam.proofs.plan.Lengths.to.Tie as tie
 
 returns : tie.Need-returns
 returns c = (search tests, refl, search needs)

@@ -1,8 +1,8 @@
 -- Either way is a case of the definition.
 use borrow.Author.Needs.{needs}
 use native.Mathlib.Omega.{arith}
-use Rattle.tcam.proofs.plan.Run.first.Statement.{statement}
-use Rattle.tcam.proofs.plan.Run.first.Tie as tie
+use Rattle.tcam.proofs.plan.Lengths.first.Statement.{statement}
+use Rattle.tcam.proofs.plan.Lengths.first.Tie as tie
 
 returns : tie.Need-returns
 returns c = (rw (c .before .if1 .taken) (c .of-length .ensures), omega (arith, c .of-length .ensures))

@@ -2,9 +2,9 @@
 use borrow.Author.Needs.{needs}
 use mathlib.Core.Path.{sym}
 use native.Mathlib.Omega.{arith}
-use Rattle.tcam.proofs.Runs.{run-rising, run-falling}
-use Rattle.tcam.proofs.plan.Run.rest.Statement.{statement}
-use Rattle.tcam.proofs.plan.Run.rest.Tie as tie
+use Rattle.tcam.proofs.Lengths.{lengths-rising, lengths-falling}
+use Rattle.tcam.proofs.plan.Lengths.rest.Statement.{statement}
+use Rattle.tcam.proofs.plan.Lengths.rest.Tie as tie
 
 returns : tie.Need-returns
 returns c =
@@ -12,7 +12,7 @@ returns c =
     let s = t .before .before .args .self in
     record {
       same = sym (t .if1 .taken);
-      is = rw (t .if1 .taken) (run-rising (s .count) (s .from .0) (search needs));
+      is = rw (t .if1 .taken) (lengths-rising (s .count) (s .from .0) (search needs));
       less = omega arith;
       within = omega arith;
     }
@@ -23,7 +23,7 @@ returns-2 c =
     let s = t .before .before .args .self in
     record {
       same = sym (t .if1 .left);
-      is = rw (t .if1 .left) (run-falling (s .count) (s .from .0) (search needs));
+      is = rw (t .if1 .left) (lengths-falling (s .count) (s .from .0) (search needs));
       less = omega arith;
       within = omega arith;
     }
