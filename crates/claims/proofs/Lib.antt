@@ -50,8 +50,9 @@ pub mod DownloadWalk
 pub mod Meanwhile
 pub mod Download
 pub mod DownloadCases
--- a plan applied again, update records
+-- a plan applied again, the test by runs, update records
 pub mod Reapplied
+pub mod RunHolds
 pub mod RecordForms
 -- all claims
 pub mod Page

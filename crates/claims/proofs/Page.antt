@@ -9,6 +9,7 @@ use Rattle.claims.proofs.Demand2.{demand2}
 use Rattle.claims.proofs.HasTable.{hasTable}
 use Rattle.claims.proofs.Demand3.{demand3}
 use Rattle.claims.proofs.Reapplied.{reapplied}
+use Rattle.claims.proofs.RunHolds.{runHolds}
 use Rattle.claims.proofs.Download.{downloadClaim}
 use Rattle.claims.proofs.Board.{board}
 use Rattle.claims.proofs.DownloadCases.{downloadCases}
@@ -23,6 +24,7 @@ claims = record {
   hasTable = hasTable;
   demand3 = demand3;
   reapplied = reapplied;
+  runHolds = runHolds;
   download = downloadClaim;
   board = board;
   downloadCases = downloadCases;

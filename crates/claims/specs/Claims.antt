@@ -6,6 +6,7 @@ use Rattle.history.specs.Whole.{WholeReport}
 use Rattle.claims.specs.Agreement.{Demand2, HasTable}
 use Rattle.claims.specs.Sequence.{Demand3}
 use Rattle.claims.specs.Reapplied.{Reapplied}
+use Rattle.claims.specs.RunHolds.{RunHolds}
 use Rattle.claims.specs.Download.{DownloadClaim}
 use Rattle.claims.specs.Board.{got, expected}
 use Rattle.claims.specs.DownloadCases
@@ -30,6 +31,10 @@ pub record Claims : Type 0 where
   -- A plan can be applied write by write on one table, each time from its start: the first k writes leave what they leave of the table
   -- before the plan.
   pub reapplied : (W : ℕ) → Reapplied W
+  -- Where no slot up to and including an entry's breaks S1 to S4, it repeats an earlier prefix exactly when it repeats one in the unbroken
+  -- run of its own length just before it, and there its address tells. So the image test by runs finds the same first broken slot on
+  -- every image.
+  pub runHolds : (W : ℕ) → RunHolds W
   -- The download gives the prefixes of a table one to a call, in order of address, then length, while updates go on. Each call gives the
   -- least prefix ahead, with its first slot's tag. Over any images the list rises, a prefix present in every image of a finished walk is
   -- given exactly once, and one present in none never. With the calls of demand 3 and single writes of their plans between the calls,

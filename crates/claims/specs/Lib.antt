@@ -1,7 +1,8 @@
--- Demand 2, demand 3, a plan applied again, the download, the board cases.
+-- Demand 2, demand 3, a plan applied again, the test by runs, the download, the board cases.
 pub mod Agreement
 pub mod Sequence
 pub mod Reapplied
+pub mod RunHolds
 pub mod Download
 pub mod Board
 pub mod DownloadCases

@@ -1,106 +1,54 @@
--- The image test: what is kept of the slots before slot i tells which rules it breaks, and the slots before it break none; a run of free
--- slots keeps both. Then the count of the used slots.
+-- The image test: the slots before slot i break no rule, an entry or free slots more keep that, and the filter has their prefixes. Then the
+-- count of the used slots.
 use Prim.Native.Nat.{ℕ, zero, suc, _+_, _-_, _≤_, _<_, min}
 use mathlib.Core.Path.{_≡_, refl, sym, ap, _∙_}
-use mathlib.Core.Bool.{Bool, true, false, cond, not, _&&_, _||_, or-false}
+use mathlib.Core.Bool.{Bool, true, false, cond, not, _&&_}
 use mathlib.Core.List.{List, [], _∷_}
 use native.Mathlib.Omega.{arith}
 use native.Mathlib.Numerals.{add-one}
-use lib.Dec.{ltb, eqb}
+use lib.Dec.{eqb}
 use lib.ListN.{length, drop, drop-of-length-le}
-use borrow.Author.Tests.{le-ltb, not-false, eqb-true}
+use borrow.Author.Tests.{not-false, eqb-true}
 use Rattle.route.specs.Refusals.{fine, fault, imageRefusal}
 use Rattle.route.specs.Lists.{any}
 use Rattle.route.specs.Loops.{before, placesFrom}
-use Rattle.tcam.specs.Slots.{Cell, cells, isFree, isUpper, lengthIn, keepsS1, longerThanNearest, samePrefixIn, breaks, imageFault, usedIn}
-use Rattle.tcam.specs.Loops.{cellAt, isUsed, SeenBefore, SeenWith, misplacedBy, FreeEnd}
+use Rattle.tcam.specs.Slots.{Cell, cells, isFree, lengthIn, samePrefixIn, misplaced, repeats, breaks, imageFault, usedIn}
+use Rattle.tcam.specs.Runs.{InOrder}
+use Rattle.tcam.specs.Loops.{cellAt, isUsed, SeenBefore, SeenWith, SeenPast, FreeEnd}
 use Rattle.tcam.specs.declared.image.Seen.{Seen}
-use Rattle.route.specs.Filter.{Noting}
-use Rattle.route.proofs.Tests.{or-parts, all-three}
-use Rattle.route.proofs.Notes.{NotedBefore, noted-turn, noted-pass}
+use Rattle.route.specs.Filter.{Noting, isNoted}
+use Rattle.route.proofs.Tests.{or-parts, all-three, not-both, clash}
+use Rattle.route.proofs.Notes.{NotedBefore, noted-none, noted-turn, noted-pass}
 use Rattle.route.proofs.Searches.{FoundFrom, from-block}
 use Rattle.tcam.proofs.Rows.{cells-at, cells-in-both, cells-past}
-use Rattle.tcam.proofs.Cells.{used-short}
-
--- a free slot breaks a rule where an entry below the pool stands before it; a used one by S1, S2 or S3
-module _ (W : ℕ) (c : Cell) (seen : Seen) where
-  pub misplaced-free : isFree c ≡ true → seen .lower ≡ misplacedBy W c seen
-  misplaced-free e = rw e
-
-  pub misplaced-used : isFree c ≡ false →
-      (not (keepsS1 W c) || ltb (seen .nearest .0) (lengthIn c) || (isUpper W c && seen .free)) ≡ misplacedBy W c seen
-  misplaced-used e = rw e (sym (or-false _))
-
--- nothing stands before slot 0: no length is over W
-pub seen-start : {W : ℕ} {s : Seen} → s .nearest .0 ≡ W → s .free ≡ false → s .lower ≡ false → SeenBefore W [] s
-seen-start {W} n f l = record {
-  nearest = λ c k u. rw (n, le-ltb W (lengthIn c) (used-short W c k u));
-  free = sym f;
-  lower = sym l;
-}
-
-pub seen-turn : {W : ℕ} {bs : List Cell} {s next : Seen} {c : Cell} → SeenBefore W bs s → SeenWith W c s next → SeenBefore W (c ∷ bs) next
-seen-turn {W} {bs} {s} {next} {c} b w = record {
-  nearest = λ d k u. nearer d (isFree c) (b .nearest d k u) ∙ ap (λ (n : ℕ). ltb n (lengthIn d)) (sym (w .nearest));
-  free = rw (b .free) (sym (w .free));
-  lower = rw (b .lower) (sym (w .lower));
-}
-  where
-    nearer : (d : Cell) (f : Bool) → longerThanNearest d bs ≡ ltb (s .nearest .0) (lengthIn d)
-        → cond f (longerThanNearest d bs) (ltb (lengthIn c) (lengthIn d)) ≡ ltb (cond f (s .nearest .0) (lengthIn c)) (lengthIn d)
-    nearer d true e = e
-    nearer d false e = refl
-
--- a slot breaks a rule where it breaks one of S1 to S4 by what was seen, or is used and stands before
-module _ {W : ℕ} {bs : List Cell} {s : Seen} (b : SeenBefore W bs s) (c : Cell) where
-  S2-same : (k f longer over : Bool) → (k ≡ true → f ≡ false → longer ≡ over) → (not k || (not f && longer)) ≡ (not k || (not f && over))
-  S2-same false f x y h = refl
-  S2-same true true x y h = refl
-  S2-same true false x y h = h refl refl
-
-  breaks-is : (misplacedBy W c s || (not (isFree c) && any (samePrefixIn c) bs)) ≡ breaks W c bs
-  breaks-is =
-      rw (b .free, b .lower)
-      (ap (λ (x : Bool). x || (isUpper W c && s .free) || (isFree c && s .lower) || (not (isFree c) && any (samePrefixIn c) bs))
-      (sym (S2-same (keepsS1 W c) (isFree c) _ _ (b .nearest c))))
-
-  pub breaks-misplaced : misplacedBy W c s ≡ true → true ≡ breaks W c bs
-  breaks-misplaced m = rw m at breaks-is
-
-  pub breaks-free : misplacedBy W c s ≡ false → isFree c ≡ true → false ≡ breaks W c bs
-  breaks-free m f = free-by _ _ _ m f ∙ breaks-is
-    where
-      free-by : (m f t : Bool) → m ≡ false → f ≡ true → false ≡ (m || (not f && t))
-      free-by m f t e g = rw (e, g)
-
-  pub breaks-used : misplacedBy W c s ≡ false → isFree c ≡ false → any (samePrefixIn c) bs ≡ breaks W c bs
-  breaks-used m f = used-by _ _ _ m f ∙ breaks-is
-    where
-      used-by : (m f t : Bool) → m ≡ false → f ≡ false → t ≡ (m || (not f && t))
-      used-by m f t e g = rw (e, g)
+use Rattle.tcam.proofs.SeenBefore.{misplaced-free, misplaced-is, breaks-free, seen-with, seen-past, past-again}
 
 -- the slots before slot i break no rule: what is left gives the whole verdict
 pub record ImageBefore (W : ℕ) (ad ts : List ℕ) (s : Seen) (i : ℕ) : Type 0 where
   pub within : i ≤ length ad
   pub equal : length ad ≡ length ts
   pub seen : SeenBefore W (before (cellAt ad ts) i) s
+  pub inOrder : InOrder W (before (cellAt ad ts) i)
   pub left : imageFault W i (before (cellAt ad ts) i) (cells (drop i ad) (drop i ts)) ≡ imageFault W 0 [] (cells ad ts)
 
 module _ {W : ℕ} {ad ts : List ℕ} {s : Seen} {i : ℕ} (h : ImageBefore W ad ts s i) where
-  module _ (l : i < length ad) {c : Cell} (is : c ≡ cellAt ad ts i) {b : Bool} (e : b ≡ breaks W c (before (cellAt ad ts) i)) where
-    broken : breaks W (cellAt ad ts i) (before (cellAt ad ts) i) ≡ b
-    broken = sym (rw is at e)
-
+  module _ (l : i < length ad) {b : Bool} (e : b ≡ breaks W (cellAt ad ts i) (before (cellAt ad ts) i)) where
     pub image-stop : b ≡ true → fault imageRefusal i ≡ imageFault W 0 [] (cells ad ts)
-    image-stop t = rw (cells-at ad ts i (h .equal) l, broken, t) at (h .left)
+    image-stop t = rw (cells-at ad ts i (h .equal) l, ← e, t) at (h .left)
 
-    pub image-turn : {next : Seen} → b ≡ false → SeenWith W c s next → ImageBefore W ad ts next (i + 1)
+    image-turn : {next : Seen} → b ≡ false → SeenBefore W (cellAt ad ts i ∷ before (cellAt ad ts) i) next → ImageBefore W ad ts next (i + 1)
     image-turn t w = record {
       within = omega arith;
       equal = h .equal;
-      seen = rw (add-one, ← is) (seen-turn (h .seen) w);
-      left = rw add-one (rw (cells-at ad ts i (h .equal) l, broken, t, add-one) at (h .left));
+      seen = rw add-one w;
+      inOrder = rw add-one (or-parts (misplaced W (cellAt ad ts i) (before (cellAt ad ts) i)) _ (sym e ∙ t) .0, h .inOrder);
+      left = rw add-one (rw (cells-at ad ts i (h .equal) l, ← e, t, add-one) at (h .left));
     }
+
+    -- an entry more
+    pub image-with : b ≡ false → {c : Cell} → c ≡ cellAt ad ts i → isFree c ≡ false → {next : Seen} → SeenWith W c i s next →
+        ImageBefore W ad ts next (i + 1)
+    image-with t {c} is u w = image-turn t (rw is at (seen-with {c = c} (h .seen) u w))
 
   pub image-end : length ad ≤ i → fine ≡ imageFault W 0 [] (cells ad ts)
   image-end l = rw (drop-of-length-le ad l) at (h .left)
@@ -119,27 +67,29 @@ module _ {ad ts : List ℕ} {from j : ℕ} (h : FoundFrom isUsed (cellAt ad ts) 
       let g = from-block h r (e .behind) (e .within) (sym (e .free)) in
       record { behind = g .behind; within = e .within; free = sym (g .is); used = e .used }
 
--- where a slot before is free and none is below the pool, a run of free slots breaks no rule and leaves what was seen
-seen-same : {W : ℕ} {s : Seen} {c : Cell} → s .free ≡ true → s .lower ≡ false → isFree c ≡ true → SeenWith W c s s
-seen-same f l e = record { nearest = rw e; free = rw (e, f); lower = rw (e, l) }
-
+-- where no entry before is below the pool, free slots break no rule
 module _ {W : ℕ} {ad ts : List ℕ} {s : Seen} {i : ℕ} (h : ImageBefore W ad ts s i) where
-  image-run : s .free ≡ true → s .lower ≡ false → (k : ℕ) → i + k ≤ length ad → any isUsed (placesFrom (cellAt ad ts) i k) ≡ false →
+  image-free : {to : ℕ} → SeenPast to s s → s .lower ≡ false → (k : ℕ) → i + k ≤ length ad → any isUsed (placesFrom (cellAt ad ts) i k) ≡ false →
       ImageBefore W ad ts s (i + k)
-  image-run f l zero n e = let z : i + 0 ≡ i = omega arith in rw z h
-  image-run f l (suc k) n e =
+  image-free w l zero n e = let z : i + 0 ≡ i = omega arith in rw z h
+  image-free w l (suc k) n e =
       let c = cellAt ad ts (i + k) in
       let parts = or-parts (isUsed c) _ e in
-      let here = not-false (isFree c) (parts .0) in
-      let b = image-run f l k (omega arith) (parts .1) in
+      let f = not-false (isFree c) (parts .0) in
+      let b = image-free w l k (omega arith) (parts .1) in
       let z : i + suc k ≡ i + k + 1 = omega arith in
-      rw z (image-turn b (omega arith) refl (breaks-free (b .seen) c (sym (misplaced-free W c s here) ∙ l) here) refl (seen-same f l here))
+      rw z (image-turn b (omega arith) (breaks-free (b .seen) c (sym (misplaced-free W c s f) ∙ l) f) refl (seen-past {c = c} (b .seen) f w))
 
-  pub image-pass : {r : ℕ} → (not (s .free) || s .lower) ≡ false → FreeEnd ad ts i r → ImageBefore W ad ts s r
-  image-pass {r} pool e =
-      let parts = or-parts (not (s .free)) (s .lower) pool in
-      let z : i + (r - i) ≡ r = omega (arith, e .behind) in
-      rw z at (image-run (not-false (s .free) (parts .0)) (parts .1) (r - i) (omega (arith, e .behind, e .within)) (e .free))
+-- a free slot that breaks no rule, and the free slots behind it
+module _ {W : ℕ} {ad ts : List ℕ} {s : Seen} {i : ℕ} (h : ImageBefore W ad ts s i) (l : i < length ad) {b : Bool} where
+  pub image-past : b ≡ breaks W (cellAt ad ts i) (before (cellAt ad ts) i) → b ≡ false → isFree (cellAt ad ts i) ≡ true →
+      {r : ℕ} {next : Seen} → FreeEnd ad ts (i + 1) r → SeenPast r s next → ImageBefore W ad ts next r
+  image-past e t f {r} x w =
+      let c = cellAt ad ts i in
+      let low = misplaced-free W c s f ∙ misplaced-is (h .seen) c ∙ or-parts (misplaced W c (before (cellAt ad ts) i)) _ (sym e ∙ t) .0 in
+      let z : i + 1 + (r - (i + 1)) ≡ r = omega (arith, x .behind) in
+      rw z at (image-free (image-turn h l e t (seen-past {c = c} (h .seen) f w)) (past-again w) (w .lower ∙ low) (r - (i + 1))
+      (omega (arith, x .behind, x .within)) (x .free))
 
 -- the filter has the prefix of each used slot before slot i
 pub record CellsNoted (ad ts row : List ℕ) (i : ℕ) : Type 0 where
@@ -154,6 +104,10 @@ module _ {ad ts row : List ℕ} {i : ℕ} (h : CellsNoted ad ts row i) where
   pub cells-noted : {c : Cell} {n : ℕ} → c ≡ cellAt ad ts i → n ≡ lengthIn c → {was : Bool} {row′ : List ℕ} →
       Noting row (c .address) n was row′ → length row′ ≡ length row → CellsNoted ad ts row′ (i + 1)
   cells-noted is e t l = record { each = noted-turn (h .each) one-cell is (rw e at t) l }
+
+  pub cells-new : {c : Cell} {n : ℕ} → c ≡ cellAt ad ts i → n ≡ lengthIn c → isNoted row (c .address) n ≡ false →
+      repeats (cellAt ad ts i) (before (cellAt ad ts) i) ≡ false
+  cells-new {c} is e k = rw is at (not-both (not (isFree c)) _ (λ u j. clash j (noted-none (h .each) c (rw e at k))))
 
   pub cells-passed : {r : ℕ} → FreeEnd ad ts i r → CellsNoted ad ts row r
   cells-passed {r} e =

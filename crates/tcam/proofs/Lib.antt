@@ -3,7 +3,11 @@ pub mod Cells
 pub mod Rows
 pub mod SlotsAgree
 pub mod Sizes
+-- S5 by runs of one length.
+pub mod Runs
 -- The loops, by family: the image test, the lookup, the download, the writes of a plan, lengths in turn and edge slots, chains.
+pub mod SeenBefore
+pub mod RunLoops
 pub mod Images
 pub mod Scans
 pub mod Downloads

@@ -5,6 +5,8 @@ pub mod Tables
 pub mod Plans
 pub mod Applies
 pub mod Book
+-- S5 by runs of one length.
+pub mod Runs
 -- The prefixes of a table read out one by one.
 pub mod Download
 -- What the code's types show, and what only loops need.

@@ -4,14 +4,15 @@ use mathlib.Core.Path.{_≡_}
 use mathlib.Core.Bool.{Bool, true, false, cond, not, _&&_, _||_}
 use mathlib.Core.List.{List, [], _∷_}
 use mathlib.Core.Option.{Option, none, some}
-use lib.Dec.{ltb, leb}
+use lib.Dec.{ltb, leb, eqb}
 use lib.ListN.{length, getD}
 use Rattle.route.specs.Refusals.{fine}
 use Rattle.route.specs.PrefixOrder.{keyOf}
 use Rattle.route.specs.Lists.{any}
-use Rattle.route.specs.Loops.{placesFrom}
+use Rattle.route.specs.Loops.{before, placesFrom}
 use Rattle.tcam.specs.Slots.{Cell, cell, cells, maxSlots, slotFault, isFree, isUpper, isLower, lengthIn, keepsS1, longerThanNearest}
 use Rattle.tcam.specs.Plans.{Write, write, firstSlot, lastSlot, ofLength, rising, falling, isSome, chain}
+use Rattle.tcam.specs.Runs.{runOf}
 use Rattle.tcam.specs.Download.{From, isToCome, nextIn, Next, entryOrEnd, nextUnless}
 use Rattle.tcam.specs.declared.image.Seen.{Seen}
 use Rattle.tcam.specs.declared.plan.Lengths.{Lengths}
@@ -19,6 +20,13 @@ use Rattle.tcam.specs.declared.plan.Lengths.{Lengths}
 -- slot i of two rows
 abbrev pub cellAt : List ℕ → List ℕ → ℕ → Cell
 cellAt ad ts i = cell (getD ad i 0) (getD ts i 0)
+
+-- the address of slot i, and whether it is a
+abbrev pub addressAt : List ℕ → ℕ → ℕ
+addressAt ad i = getD ad i 0
+
+abbrev pub isAddress : ℕ → ℕ → Bool
+isAddress a b = eqb b a
 
 -- write i of a plan's row
 abbrev pub writeAt : List ℕ → ℕ → Write
@@ -31,11 +39,24 @@ pub record SeenBefore (W : ℕ) (before : List Cell) (seen : Seen) : Type 0 wher
   pub free : any isFree before ≡ seen .free
   pub lower : any (isLower W) before ≡ seen .lower
 
--- the same with one slot more
-pub record SeenWith (W : ℕ) (c : Cell) (seen next : Seen) : Type 0 where
-  pub nearest : next .nearest .0 ≡ cond (isFree c) (seen .nearest .0) (lengthIn c)
-  pub free : next .free ≡ (isFree c || seen .free)
+-- the same with an entry more, in slot i: its run goes on where it has the nearest length, and else begins with it
+pub record SeenWith (W : ℕ) (c : Cell) (i : ℕ) (seen next : Seen) : Type 0 where
+  pub nearest : next .nearest .0 ≡ lengthIn c
+  pub free : next .free ≡ seen .free
   pub lower : next .lower ≡ (isLower W c || seen .lower)
+  pub run : next .run .0 ≡ cond (eqb (lengthIn c) (seen .nearest .0)) (seen .run .0) i
+
+-- the same with free slots more, up to slot `to`
+pub record SeenPast (to : ℕ) (seen next : Seen) : Type 0 where
+  pub nearest : next .nearest .0 ≡ seen .nearest .0
+  pub free : next .free ≡ true
+  pub lower : next .lower ≡ seen .lower
+  pub run : next .run .0 ≡ to
+
+-- the run that ends just before slot i: the entries of length n from slot `run` on, none where that is slot i
+pub record RunBefore (at : ℕ → Cell) (run n i : ℕ) : Type 0 where
+  pub within : run ≤ i
+  pub is : (m : ℕ) → runOf m (before at i) ≡ cond (eqb m n) (placesFrom at run (i - run)) []
 
 -- whether a slot breaks one of S1 to S4
 abbrev pub misplacedBy : ℕ → Cell → Seen → Bool

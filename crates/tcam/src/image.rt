@@ -1,20 +1,24 @@
 // The image test: the first slot that breaks one of S1 to S5.
 //
 // One pass in rising order keeps what S2 to S4 ask of the slots before: the nearest used one's
-// length, whether one is free, whether one is below the pool. S5 compares a used slot with those
-// before it, and only where it breaks none of the other rules. A free slot right behind a free one
-// breaks a rule only where that one does, so the pool is passed over block by block.
+// length, whether one is free, whether one is below the pool. S2 to S4 also put the entries of one
+// length next to each other. So S5 compares an entry only with the run of its own length just before
+// it, and there with the addresses alone; the pass keeps where that run begins. The filter comes
+// first: where it says that a prefix was not noted, nothing is compared. Behind a free slot the free
+// ones are passed over block by block.
 ghost use mathlib.Core.Path.{_≡_};
 ghost use Prim.Native.Nat.{_+_, _-_, _≤_, _<_};
-ghost use mathlib.Core.Bool.{false};
+ghost use mathlib.Core.Bool.{false, cond};
 ghost use mathlib.Core.List.{[]};
+ghost use lib.Dec.{eqb};
 ghost use lib.ListN.{length};
 ghost use Rattle.route.specs.Lists.{any};
 ghost use Rattle.route.specs.Loops.{before, placesFrom};
 ghost use Rattle.route.specs.Shown.{verdictOf, counted};
-ghost use Rattle.tcam.specs.Slots.{maxSlots, cells, samePrefixIn, breaks, imageFault, tableFault, usedIn, slotCheck};
+ghost use Rattle.tcam.specs.Slots.{maxSlots, cells, repeats, breaks, imageFault, tableFault, usedIn, slotCheck};
 ghost use Rattle.tcam.specs.Shown.{cellOf};
-ghost use Rattle.tcam.specs.Loops.{cellAt, isUsed, misplacedBy, SeenBefore, SeenWith, FreeEnd};
+ghost use Rattle.tcam.specs.Runs.{InOrder};
+ghost use Rattle.tcam.specs.Loops.{cellAt, addressAt, isAddress, isUsed, misplacedBy, SeenBefore, SeenWith, SeenPast, RunBefore, FreeEnd};
 use crate::MAX_SLOTS;
 use crate::slots::Cell;
 use crate::slots::cell_at;
@@ -30,30 +34,52 @@ use route::lesser;
 // How many slots are compared before it is asked whether one was found.
 const BLOCK: usize = 64;
 
-// What stands before a slot, as far as S2 to S4 ask.
+// What stands before a slot, as far as S2 to S5 ask: the nearest entry's length, whether a slot is
+// free, whether an entry is below the pool, and where the run of the nearest length begins that ends
+// just before the slot.
 pub struct Seen {
     pub nearest: Length,
     pub free: bool,
     pub lower: bool,
+    pub run: Slot,
 }
 
 impl Seen {
-    // With one slot more.
-    fn with(self, c: Cell) -> Seen
-        ensures { λ r. ⌜ SeenWith 32 (cellOf c) self r ⌝ }
+    // Where the run begins with an entry of length n more, in slot i: it goes on where the length is
+    // the nearest one, and else begins with the entry.
+    fn run_with(self, n: Length, i: Slot) -> Slot
+        ensures { λ r. ⌜ r .0 ≡ cond (eqb (n .0) (self .nearest .0)) (self .run .0) (i .0) ⌝ }
     {
-        if c.is_free() {
-            let nearest = self.nearest;
-            return Seen {
-                nearest,
-                free: true,
-                lower: self.lower,
-            };
+        let nearest = self.nearest;
+        if n.0 == nearest.0 {
+            return self.run;
         }
+        i
+    }
+
+    // With an entry more, in slot i.
+    fn with(self, c: Cell, i: Slot) -> Seen
+        ensures { λ r. ⌜ SeenWith 32 (cellOf c) (i .0) self r ⌝ }
+    {
+        let n = c.length();
         Seen {
-            nearest: c.length(),
+            nearest: n,
             free: self.free,
             lower: c.is_lower() | self.lower,
+            run: self.run_with(n, i),
+        }
+    }
+
+    // With free slots more, up to slot `to`.
+    fn past(self, to: Slot) -> Seen
+        ensures { λ r. ⌜ SeenPast (to .0) self r ⌝ }
+    {
+        let nearest = self.nearest;
+        Seen {
+            nearest,
+            free: true,
+            lower: self.lower,
+            run: to,
         }
     }
 
@@ -70,47 +96,49 @@ impl Seen {
     }
 }
 
-// Whether a slot from slot `from` up to slot `to` holds the prefix of c. The loop has no exit, so that
+// Whether a slot from slot `from` up to slot `to` holds the address. The loop has no exit, so that
 // several slots are compared at once.
-fn stands_among(addresses: &[u32], tags: &[u32], from: Slot, to: Slot, c: Cell) -> bool
-    requires { ⌜ (length (now addresses) ≡ length (now tags)) × (from .0 ≤ to .0) × (to .0 ≤ length (now addresses)) ⌝ }
-    ensures { λ r. ⌜ r ≡ any (samePrefixIn (cellOf c)) (placesFrom (cellAt (now (addresses .entry)) (now (tags .entry))) (from .0) (to .0 - from .0)) ⌝ }
+fn stands_among(addresses: &[u32], from: Slot, to: Slot, address: u32) -> bool
+    requires { ⌜ (from .0 ≤ to .0) × (to .0 ≤ length (now addresses)) ⌝ }
+    ensures { λ r. ⌜ r ≡ any (isAddress address) (placesFrom (addressAt (now (addresses .entry))) (from .0) (to .0 - from .0)) ⌝ }
 {
     let end = to.0;
     let mut found = false;
     let mut j = from.0;
     while j < end {
-        found = c.stands_in(cell_at(addresses, tags, Slot(j))) | found;
+        found = (addresses[j] == address) | found;
         j += 1;
     }
     found
 }
 
-// S5: whether a slot before slot i holds the prefix of c.
-fn stands_before(addresses: &[u32], tags: &[u32], i: Slot, c: Cell) -> bool
-    requires { ⌜ (length (now addresses) ≡ length (now tags)) × (i .0 ≤ length (now addresses)) ⌝ }
-    ensures { λ r. ⌜ r ≡ any (samePrefixIn (cellOf c)) (before (cellAt (now (addresses .entry)) (now (tags .entry))) (i .0)) ⌝ }
+// The same, block by block, up to the first block that has it.
+fn stands_between(addresses: &[u32], from: Slot, to: Slot, address: u32) -> bool
+    requires { ⌜ (from .0 ≤ to .0) × (to .0 ≤ length (now addresses)) ⌝ }
+    ensures { λ r. ⌜ r ≡ any (isAddress address) (placesFrom (addressAt (now (addresses .entry))) (from .0) (to .0 - from .0)) ⌝ }
 {
-    let end = i.0;
-    let mut j = 0;
+    let end = to.0;
+    let mut j = from.0;
     while j < end {
-        let to = lesser(j + BLOCK, end);
-        if stands_among(addresses, tags, Slot(j), Slot(to), c) {
+        let next = lesser(j + BLOCK, end);
+        if stands_among(addresses, Slot(j), Slot(next), address) {
             return true;
         }
-        j = to;
+        j = next;
     }
     false
 }
 
-// Whether slot i, which holds c, breaks one of S1 to S5. Where its prefix was not noted, no slot before
-// it holds that.
-fn breaks_rule(addresses: &[u32], tags: &[u32], seen: Seen, noted: bool, i: Slot, c: Cell) -> bool
-    requires { ⌜ (length (now addresses) ≡ length (now tags)) × (i .0 ≤ length (now addresses)) ⌝ }
-    requires { ⌜ SeenBefore 32 (before (cellAt (now addresses) (now tags)) (i .0)) seen ⌝ }
-    requires { ⌜ (noted ≡ false → any (samePrefixIn (cellOf c)) (before (cellAt (now addresses) (now tags)) (i .0)) ≡ false) ⌝ }
-    ensures { λ r. ⌜ r ≡ breaks 32 (cellOf c) (before (cellAt (now (addresses .entry)) (now (tags .entry))) (i .0)) ⌝ }
+// Whether slot i breaks one of S1 to S5. Where its prefix was not noted, no slot before it holds that;
+// where it has another length than the nearest entry, its run is empty.
+fn breaks_rule(addresses: &[u32], tags: &[u32], seen: Seen, noted: bool, i: Slot) -> bool
+    requires { ⌜ (length (now addresses) ≡ length (now tags)) × (i .0 < length (now addresses)) ⌝ }
+    requires { ⌜ SeenBefore 32 (before (cellAt (now addresses) (now tags)) (i .0)) seen × InOrder 32 (before (cellAt (now addresses) (now tags)) (i .0)) ⌝ }
+    requires { ⌜ RunBefore (cellAt (now addresses) (now tags)) (seen .run .0) (seen .nearest .0) (i .0) ⌝ }
+    requires { ⌜ (noted ≡ false → repeats (cellAt (now addresses) (now tags) (i .0)) (before (cellAt (now addresses) (now tags)) (i .0)) ≡ false) ⌝ }
+    ensures { λ r. ⌜ r ≡ breaks 32 (cellAt (now (addresses .entry)) (now (tags .entry)) (i .0)) (before (cellAt (now (addresses .entry)) (now (tags .entry))) (i .0)) ⌝ }
 {
+    let c = cell_at(addresses, tags, i);
     if seen.refuses(c) {
         return true;
     }
@@ -120,7 +148,12 @@ fn breaks_rule(addresses: &[u32], tags: &[u32], seen: Seen, noted: bool, i: Slot
     if !noted {
         return false;
     }
-    stands_before(addresses, tags, i, c)
+    let n = c.length();
+    let nearest = seen.nearest;
+    if n.0 != nearest.0 {
+        return false;
+    }
+    stands_between(addresses, seen.run, i, c.address)
 }
 
 // Whether a slot from slot `from` up to slot `to` is used, as `stands_among` does it.
@@ -170,8 +203,7 @@ fn free_end(addresses: &[u32], tags: &[u32], from: Slot) -> Slot
     Slot(j)
 }
 
-// Refusal 7 of an update. Where a slot before is free and none is below the pool, free slots break no
-// rule and change nothing of what was seen.
+// Refusal 7 of an update.
 fn image_check(addresses: &[u32], tags: &[u32], filter: &mut [u64]) -> Check
     requires { ⌜ (length (now addresses) ≡ length (now tags)) × (0 < length (now filter)) ⌝ }
     ensures { λ r. ⌜ verdictOf r ≡ imageFault 32 0 [] (cells (now (addresses .entry)) (now (tags .entry))) ⌝ }
@@ -180,21 +212,23 @@ fn image_check(addresses: &[u32], tags: &[u32], filter: &mut [u64]) -> Check
         nearest: Length(32),
         free: false,
         lower: false,
+        run: Slot(0),
     };
     let mut i = 0;
     while i < addresses.len() {
         let c = cell_at(addresses, tags, Slot(i));
         let noted = filter::note(filter, c.address, c.length());
-        if breaks_rule(addresses, tags, seen, noted, Slot(i), c) {
+        if breaks_rule(addresses, tags, seen, noted, Slot(i)) {
             return Check::Fault(Refusal::Image(i));
         }
-        seen = seen.with(c);
-        i += 1;
-        if !seen.free | seen.lower {
-            continue;
+        if c.is_free() {
+            let next = free_end(addresses, tags, Slot(i + 1));
+            seen = seen.past(next);
+            i = next.0;
+        } else {
+            seen = seen.with(c, Slot(i));
+            i += 1;
         }
-        let next = free_end(addresses, tags, Slot(i));
-        i = next.0;
     }
     Check::Fine
 }

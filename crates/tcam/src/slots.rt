@@ -4,7 +4,7 @@ ghost use mathlib.Core.Bool.{cond};
 ghost use Prim.Native.Nat.{_≤_, _<_};
 ghost use lib.ListN.{length};
 ghost use Rattle.route.specs.Shown.{verdictOf};
-ghost use Rattle.tcam.specs.Slots.{isFree, lengthIn, hopIn, keepsS1, isUpper, isLower, samePrefixIn, hits, slotsFault};
+ghost use Rattle.tcam.specs.Slots.{isFree, lengthIn, hopIn, keepsS1, isUpper, isLower, hits, slotsFault};
 ghost use Rattle.tcam.specs.Plans.{ofPrefix};
 ghost use Rattle.tcam.specs.Shown.{cellOf};
 ghost use Rattle.tcam.specs.Loops.{cellAt, groupOf};
@@ -97,15 +97,6 @@ impl Cell {
     {
         let n = self.length();
         !self.is_free() & (n.0 < 16)
-    }
-
-    // Whether the slot b is used and has this slot's prefix.
-    pub fn stands_in(self, b: Cell) -> bool
-        ensures { λ r. ⌜ r ≡ samePrefixIn (cellOf self) (cellOf b) ⌝ }
-    {
-        let n = self.length();
-        let m = b.length();
-        !b.is_free() & (b.address == self.address) & (m.0 == n.0)
     }
 
     // Whether the slot holds the prefix of this address and length.

@@ -2,7 +2,7 @@
 use borrow.Author.Needs.{needs}
 use mathlib.Core.Path.{sym, _∙_}
 use Rattle.tcam.specs.Shown.{cellOf}
-use Rattle.tcam.proofs.Images.{misplaced-free, misplaced-used}
+use Rattle.tcam.proofs.SeenBefore.{misplaced-free, misplaced-used}
 use Rattle.tcam.proofs.image.Seen.refuses.Statement.{statement}
 use Rattle.tcam.proofs.image.Seen.refuses.Tie as tie
 
