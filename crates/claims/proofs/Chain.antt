@@ -11,7 +11,7 @@ use borrow.Author.Tests.{eqb-true, eq-eqb, ne-eqb}
 use Rattle.tcam.specs.Slots.{Cell, free, isFree, lengthIn}
 use Rattle.tcam.specs.Plans.{falling, ofLength, chain, copied, openAfter, removeBy}
 use Rattle.tcam.specs.Book.{Book, rows}
-use Rattle.tcam.specs.Loops.{edgeOf, lengths}
+use Rattle.tcam.specs.Loops.{edgeOf, lengthsFrom}
 use Rattle.route.proofs.Tests.{not-both}
 use Rattle.claims.proofs.Times.{All, times}
 use Rattle.claims.proofs.Join.{join, place-apart, around, around-is, join-assoc, join-nil, nil-join, length-join, times-join}
@@ -86,21 +86,21 @@ module _ {W : ℕ} (b : Book) (ok : (l : ℕ) → Row W l (b l)) (cs : List Cell
 
   -- over the rows of the k lengths from `from` on
   pub walk-rows : (last : Cell) (a c S : List Cell) (f : Cell) → cs ≡ join up (join up a inner) S → length S ≡ suc (length c)
-      → Goes W last up (join up a inner) f c (chain (edgeOf up cs) cs (lengths up k from) (place up (join up a inner) c) last)
+      → Goes W last up (join up a inner) f c (chain (edgeOf up cs) cs (lengthsFrom up k from) (place up (join up a inner) c) last)
       (around up a last (join up turned c)) (1 + filledRows b (falling k from))
   walk-rows last a c S f e s =
       let i = stack-lengths b up a k from in
       rw (← i, ← (stack-lengths (λ m. turn up (b m)) up [] k from ∙ nil-join up turned), ← (lengths-times (λ l. ltb 0 (length (b l))) up k from))
-      (walk-over b ok last cs up (lengths up k from) (lengths-all up (Only cs b) k from only) a c S f (rw (← i) at e) s)
+      (walk-over b ok last cs up (lengthsFrom up k from) (lengths-all up (Only cs b) k from only) a c S f (rw (← i) at e) s)
 
   -- from the slot of x, over what lies ahead of it in its row, and then over those rows
   pub walk-from : {l : ℕ} (a u : List Cell) (x : Cell) (c : List Cell) → Row W l u → IsEntry W l x
       → cs ≡ join up (join up a inner) (join up u (join up (x ∷ []) c)) → times (ofLength l) (join up a inner) ≡ 0
-      → Goes W free up (join up (join up a inner) u) x c (removeBy (edgeOf up cs) cs (lengths up k from) (place up (join up (join up a inner) u) c)
+      → Goes W free up (join up (join up a inner) u) x c (removeBy (edgeOf up cs) cs (lengthsFrom up k from) (place up (join up (join up a inner) u) c)
       (openAfter (place up (join up (join up a inner) u) c) (edgeOf up cs l)))
       (around up a free (join up turned (join up (turn up u) c))) (filled u + (1 + filledRows b (falling k from)))
   walk-from a u x c w i e z =
-      rw (removeBy-is cs up (join up a inner) (ended up u) x c (lengths up k from) w i e z)
-      (hop free cs (λ at. chain (edgeOf up cs) cs (lengths up k from) at free) up (join up a inner) c (join up (x ∷ []) c) _ x _ (ended up u) w e
+      rw (removeBy-is cs up (join up a inner) (ended up u) x c (lengthsFrom up k from) w i e z)
+      (hop free cs (λ at. chain (edgeOf up cs) cs (lengthsFrom up k from) at free) up (join up a inner) c (join up (x ∷ []) c) _ x _ (ended up u) w e
       (simp length-join (omega arith))
       (λ g. walk-rows free a (join up (turn up u) c) (join up u (join up (x ∷ []) c)) g e (simp (length-join, length-turn (ended up u)) (omega arith))))

@@ -10,7 +10,7 @@ use borrow.Author.Tests.{leb-true, leb-false, ltb-true, lt-ltb, le-ltb, le-leb}
 use Rattle.tcam.specs.Slots.{Cell, isFree}
 use Rattle.tcam.specs.Plans.{falling, chain, openAfter, setAbsent, removeBy, removePresent}
 use Rattle.tcam.specs.Book.{isUpperLength, between, lengths}
-use Rattle.tcam.specs.Loops.{edgeOf, lengths, edge}
+use Rattle.tcam.specs.Loops.{edgeOf, lengthsFrom, edge}
 use Rattle.route.proofs.Tests.{both, not-both, byTest}
 use Rattle.claims.proofs.Times.{All}
 use Rattle.claims.proofs.Join.{join, around}
@@ -48,9 +48,9 @@ pub record Lies (W n : ℕ) : Type 0 where
   pub inside : All (Other W n true) (falling count from)
   pub across : All (Other W n false) (cond side (lowerLengths W) (upperLengths W))
   pub own : between W n n ≡ false
-  pub sets : (cs : List Cell) (c : Cell) → setAbsent W cs n c ≡ chain (edgeOf side cs) cs (lengths side count from) (openAfter 0 (edge side isFree cs)) c
+  pub sets : (cs : List Cell) (c : Cell) → setAbsent W cs n c ≡ chain (edgeOf side cs) cs (lengthsFrom side count from) (openAfter 0 (edge side isFree cs)) c
   pub removes : (cs : List Cell) (s : ℕ)
-      → removePresent W cs n s ≡ removeBy (edgeOf (not side) cs) cs (lengths (not side) count from) s (openAfter s (edgeOf (not side) cs n))
+      → removePresent W cs n s ≡ removeBy (edgeOf (not side) cs) cs (lengthsFrom (not side) count from) s (openAfter s (edgeOf (not side) cs n))
 
 falling-about : (j k l n : ℕ) → l + k ≡ n → falling (j + suc k) l ≡ falling j (n + 1) ++ (n ∷ falling k l)
 falling-about j k l n e =

@@ -11,7 +11,7 @@ use lib.ListN.{length, length-append}
 use Rattle.tcam.specs.Slots.{Cell}
 use Rattle.tcam.specs.Plans.{falling}
 use Rattle.tcam.specs.Book.{Book, rows}
-use Rattle.tcam.specs.Loops.{lengths}
+use Rattle.tcam.specs.Loops.{lengthsFrom}
 use Rattle.claims.proofs.Times.{All, all-append, times, times-append}
 use Rattle.claims.proofs.Join.{join}
 
@@ -26,13 +26,13 @@ falling-inner : (k l : ℕ) → falling (suc k) l ≡ falling k (l + 1) ++ (l �
 falling-inner k l = ap (λ (n : ℕ). falling n l) (sym (add-one k)) ∙ falling-split k 1 l ∙ rw add-zero
 
 -- what holds of each of these lengths
-pub lengths-all : (up : Bool) (P : ℕ → Type 0) (k l : ℕ) → ((m : ℕ) → l ≤ m → m < l + k → P m) → All P (lengths up k l)
+pub lengths-all : (up : Bool) (P : ℕ → Type 0) (k l : ℕ) → ((m : ℕ) → l ≤ m → m < l + k → P m) → All P (lengthsFrom up k l)
 lengths-all true P zero l h = tt
 lengths-all true P (suc k) l h = (h l (omega arith) (omega arith), lengths-all true P k (l + 1) (λ m i j. h m (omega arith) (omega arith)))
 lengths-all false P zero l h = tt
 lengths-all false P (suc k) l h = (h (l + k) (omega arith) (omega arith), lengths-all false P k l (λ m i j. h m i (omega arith)))
 
-pub lengths-times : (t : ℕ → Bool) (up : Bool) (k l : ℕ) → times t (lengths up k l) ≡ times t (falling k l)
+pub lengths-times : (t : ℕ → Bool) (up : Bool) (k l : ℕ) → times t (lengthsFrom up k l) ≡ times t (falling k l)
 lengths-times t true zero l = refl
 lengths-times t true (suc k) l = omega (arith, lengths-times t true k (l + 1), ap (times t) (falling-inner k l) ∙ times-append t (falling k (l + 1)) (l ∷ []))
 lengths-times t false k l = refl
@@ -56,7 +56,7 @@ module _ (b : Book) where
   rows-join false ks ls = rows-append ls ks
 
   -- lengths in turn, either way, have the rows of the lengths from l on
-  pub stack-lengths : (up : Bool) (a : List Cell) (k l : ℕ) → stack up a b (lengths up k l) ≡ join up a (rows b (falling k l))
+  pub stack-lengths : (up : Bool) (a : List Cell) (k l : ℕ) → stack up a b (lengthsFrom up k l) ≡ join up a (rows b (falling k l))
   stack-lengths true a zero l = sym (append-nil a)
   stack-lengths true a (suc k) l = rw (stack-lengths true a k (l + 1), rows-inner) (append-assoc a (rows b (falling k (l + 1))) (b l))
     where

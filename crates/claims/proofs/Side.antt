@@ -12,7 +12,7 @@ use Rattle.tcam.specs.Slots.{Cell, free, isFree}
 use Rattle.tcam.specs.Plans.{ofLength, setAbsent, removePresent, chain, write}
 use Rattle.tcam.specs.Book.{Book, rows, bookImage, entries, between, afterSet, afterRemove, replaced, rowsTurned, lengths, countIf}
 use Rattle.tcam.specs.Book.{atEdge, isUpperLength}
-use Rattle.tcam.specs.Loops.{edgeOf, lengths, edge}
+use Rattle.tcam.specs.Loops.{edgeOf, lengthsFrom, edge}
 use Rattle.route.proofs.Tests.{either}
 use Rattle.claims.proofs.Times.{times}
 use Rattle.claims.proofs.Join.{join, around, around-is, join-assoc, join-not, join-copies, length-join, times-join, all-join}
@@ -85,7 +85,7 @@ module _ (W M : ℕ) (b : Book) (ok : BookOk W M b) (n : ℕ) (i : n ≤ W) wher
       used = simp times-join
           (omega (arith, used-rows W M b ok (L .outer), rw append-nil at (used-rows W M b ok (n ∷ [])), used-rows W M b ok (innerLengths L)))
 
-      plan : setAbsent W cs n e ≡ chain (edgeOf s cs) cs (lengths s (L .count) (L .from)) (place s near rest) e
+      plan : setAbsent W cs n e ≡ chain (edgeOf s cs) cs (lengthsFrom s (L .count) (L .from)) (place s near rest) e
       plan = L .sets cs e ∙ rw (ap (edge s isFree) before, edge-some isFree s near free rest used refl)
 
       next : Shape W M (afterSet W b n e) (laid L outer (join s (b n) (e ∷ [])) (rows (λ m. turn s (b m)) (innerLengths L)) p far)

@@ -9,7 +9,7 @@ use lib.ListN.{length, length-set}
 use lib.Seq.{sets}
 use Rattle.tcam.specs.Slots.{Cell, maxSlots, cells}
 use Rattle.tcam.specs.Plans.{Write, write, firstSlot, lastSlot, isSome, openAfter, chain, numbers}
-use Rattle.tcam.specs.Loops.{cellAt, edge, edgeOf, lengths, lengthAt, lengthsOf, ShorterBy, chainOf, moves, slotIn, EdgesOf}
+use Rattle.tcam.specs.Loops.{cellAt, edge, edgeOf, lengthsFrom, lengthAt, lengthsOf, ShorterBy, chainOf, moves, slotIn, EdgesOf}
 use Rattle.tcam.specs.declared.plan.Lengths.{Lengths}
 use Rattle.tcam.proofs.Rows.{length-cells, getD-cells}
 use Rattle.tcam.proofs.Lengths.{lengths-none}
@@ -65,7 +65,7 @@ length-chain edge cs (l ∷ ls) at c = go (edge l) refl (λ a. length-chain edge
     go (some s) e ih = rw e (omega (arith, ih s))
 
 -- two edges that agree on the lengths give as many moves
-moves-agree : (f g : ℕ → Option ℕ) (up : Bool) (k l : ℕ) → ((m : ℕ) → m < l + k → f m ≡ g m) → moves f (lengths up k l) ≡ moves g (lengths up k l)
+moves-agree : (f g : ℕ → Option ℕ) (up : Bool) (k l : ℕ) → ((m : ℕ) → m < l + k → f m ≡ g m) → moves f (lengthsFrom up k l) ≡ moves g (lengthsFrom up k l)
 moves-agree f g true zero l h = refl
 moves-agree f g true (suc k) l h = rw (h l (omega arith), moves-agree f g true k (l + 1) (λ m i. h m (omega arith)))
 moves-agree f g false zero l h = refl

@@ -17,7 +17,7 @@ use Rattle.route.specs.Refusals.{lengthRefusal, addressRefusal, hopRefusal, ful
 use Rattle.tcam.specs.Slots.{maxSlots, Cell, cell, cells, free, isFree, tagOf, breaks, imageFault, tableFault}
 use Rattle.tcam.specs.Plans.{Write, Planned, refuses, writes, write, firstSlot, lastSlot, ofPrefix, openAfter, chain, firstOf, lastOf, setAbsent, removeBy, removePresent}
 use Rattle.tcam.specs.Plans.{mostToSet, mostToRemove, withRoom, isSome, setAt, removeAt, ifFine, planSet, planRemove, planAnswer}
-use Rattle.tcam.specs.Loops.{lengths, moves}
+use Rattle.tcam.specs.Loops.{lengthsFrom, moves}
 use Rattle.route.proofs.Tests.{either, inTurn}
 use Rattle.route.proofs.Accepted.{prefix-good}
 use Rattle.tcam.proofs.Chains.{length-chain}
@@ -27,20 +27,20 @@ one-move : (o : Option ℕ) → cond (isSome o) 1 0 ≤ 1
 one-move none = omega arith
 one-move (some s) = omega arith
 
-moves-most : (edge : ℕ → Option ℕ) (up : Bool) (k l : ℕ) → moves edge (lengths up k l) ≤ k
+moves-most : (edge : ℕ → Option ℕ) (up : Bool) (k l : ℕ) → moves edge (lengthsFrom up k l) ≤ k
 moves-most edge true zero l = omega arith
 moves-most edge true (suc k) l = omega (arith, one-move (edge l), moves-most edge true k (l + 1))
 moves-most edge false zero l = omega arith
 moves-most edge false (suc k) l = omega (arith, one-move (edge (l + k)), moves-most edge false k l)
 
 module _ (edge : ℕ → Option ℕ) (cs : List Cell) (up : Bool) (k l : ℕ) where
-  chain-most : (at : ℕ) (c : Cell) → length (chain edge cs (lengths up k l) at c) ≤ k + 1
-  chain-most at c = omega (arith, length-chain edge cs (lengths up k l) at c, moves-most edge up k l)
+  chain-most : (at : ℕ) (c : Cell) → length (chain edge cs (lengthsFrom up k l) at c) ≤ k + 1
+  chain-most at c = omega (arith, length-chain edge cs (lengthsFrom up k l) at c, moves-most edge up k l)
 
-  removeBy-most : (s e : ℕ) → length (removeBy edge cs (lengths up k l) s e) ≤ k + 2
+  removeBy-most : (s e : ℕ) → length (removeBy edge cs (lengthsFrom up k l) s e) ≤ k + 2
   removeBy-most s e = go (eqb s e) (chain-most e free)
     where
-      go : (b : Bool) → length (chain edge cs (lengths up k l) e free) ≤ k + 1 → length (cond b [] (write s (getD cs e free) ∷ []) ++ chain edge cs (lengths up k l) e free) ≤ k + 2
+      go : (b : Bool) → length (chain edge cs (lengthsFrom up k l) e free) ≤ k + 1 → length (cond b [] (write s (getD cs e free) ∷ []) ++ chain edge cs (lengthsFrom up k l) e free) ≤ k + 2
       go true h = omega arith
       go false h = omega arith
 

@@ -16,7 +16,7 @@ use Rattle.route.specs.Refusals.{Answer, value, refused, fine, roomRefusal, ful
 use Rattle.tcam.specs.Slots.{Cell, isFree, free}
 use Rattle.tcam.specs.Plans.{Write, Planned, refuses, writes, withRoom, numbers, IsPlanned, write, chain, removeBy}
 use Rattle.tcam.specs.Plans.{firstSlot, lastSlot, firstOf, lastOf, rising, falling, orElse, isSome, openAfter, setAt, removePresent}
-use Rattle.tcam.specs.Loops.{edge, edgeOf, lengths, lengthsTo, lengthsOf, chainOf}
+use Rattle.tcam.specs.Loops.{edge, edgeOf, lengthsFrom, lengthsTo, lengthsOf, chainOf}
 use Rattle.tcam.specs.declared.plan.Lengths.{Lengths}
 
 pub length-numbers : (ws : List Write) → length (numbers ws) ≡ 3 * length ws
@@ -85,7 +85,7 @@ module _ (W : ℕ) (cs : List Cell) (n : ℕ) (c : Cell) (room : ℕ) where
       go : (t : Bool) → up ≡ t →
           cond t (chain (firstOf cs) cs (rising (n - W / 2) (W / 2)) (openAfter 0 (firstSlot isFree 0 cs)) c)
           (chain (lastOf cs) cs (falling (W / 2 - 1 - n) (n + 1)) (openAfter 0 (lastSlot isFree 0 cs)) c)
-          ≡ chain (edgeOf up cs) cs (cond t (lengths up (n - W / 2) (W / 2)) (lengths up (W / 2 - 1 - n) (n + 1))) s c
+          ≡ chain (edgeOf up cs) cs (cond t (lengthsFrom up (n - W / 2) (W / 2)) (lengthsFrom up (W / 2 - 1 - n) (n + 1))) s c
       go true q = let e′ = rw q at e in rw (q, e′)
       go false q = let e′ = rw q at e in rw (q, e′)
 
@@ -102,6 +102,6 @@ module _ (W : ℕ) (cs : List Cell) (n : ℕ) where
 
       go : (b : Bool) → up ≡ not b → cond b (removeBy (lastOf cs) cs (falling (n - W / 2) (W / 2)) s (openAfter s (lastOf cs n)))
           (removeBy (firstOf cs) cs (rising (W / 2 - 1 - n) (n + 1)) s (openAfter s (firstOf cs n)))
-          ≡ removeBy (edgeOf up cs) cs (cond b (lengths up (n - W / 2) (W / 2)) (lengths up (W / 2 - 1 - n) (n + 1))) s (openAfter s (edgeOf up cs n))
+          ≡ removeBy (edgeOf up cs) cs (cond b (lengthsFrom up (n - W / 2) (W / 2)) (lengthsFrom up (W / 2 - 1 - n) (n + 1))) s (openAfter s (edgeOf up cs n))
       go true q = rw q
       go false q = rw q

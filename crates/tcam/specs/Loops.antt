@@ -85,13 +85,13 @@ abbrev pub edgeOf : Bool → List Cell → ℕ → Option ℕ
 edgeOf up cs l = edge up (ofLength l) cs
 
 -- k lengths from l on, rising or falling
-abbrev pub lengths : Bool → ℕ → ℕ → List ℕ
-lengths true k l = rising k l
-lengths false k l = falling k l
+abbrev pub lengthsFrom : Bool → ℕ → ℕ → List ℕ
+lengthsFrom true k l = rising k l
+lengthsFrom false k l = falling k l
 
 -- the lengths between length n and the pool
 abbrev pub lengthsTo : ℕ → Bool → ℕ → List ℕ
-lengthsTo W up n = cond (leb (W / 2) n) (lengths up (n - W / 2) (W / 2)) (lengths up (W / 2 - 1 - n) (n + 1))
+lengthsTo W up n = cond (leb (W / 2) n) (lengthsFrom up (n - W / 2) (W / 2)) (lengthsFrom up (W / 2 - 1 - n) (n + 1))
 
 -- the first of k lengths from l on
 abbrev pub lengthAt : Bool → ℕ → ℕ → ℕ
@@ -99,7 +99,7 @@ lengthAt true k l = l
 lengthAt false k l = l + (k - 1)
 
 abbrev pub lengthsOf : Lengths → List ℕ
-lengthsOf r = lengths (r .up) (r .count) (r .from .0)
+lengthsOf r = lengthsFrom (r .up) (r .count) (r .from .0)
 
 -- lengths in turn without the first
 pub record ShorterBy (r next : Lengths) : Type 0 where
