@@ -1,11 +1,13 @@
 //! Slots: the image test, lookup, plans and their application.
 //!
-//! Each rule of the image names the first slot that breaks it, and the least of these is the image's fault. A plan is a path of
-//! slots: each is written with what the next one holds, and the last with the new entry or with nothing.
+//! Each rule of the image names the first slot that breaks it, and the least of these is the image's fault. The same test goes slot
+//! by slot too, where S5 compares an entry with the run of its own length just before it alone. A plan is a path of slots: each is
+//! written with what the next one holds, and the last with the new entry or with nothing.
 
 use crate::list::{entry_fault, matches};
 use crate::Fault;
 use std::collections::HashSet;
+use std::ops::Range;
 
 /// The two rows of a table.
 #[derive(Clone, PartialEq, Eq, Debug)]
@@ -65,7 +67,7 @@ fn cells(addresses: &[u32], tags: &[u32]) -> Result<Vec<Cell>, Fault> {
 }
 
 /// The slots with entries, each with its address and length, from slot 0 upward.
-pub(crate) fn entries(cells: &[Cell]) -> impl Iterator<Item = (usize, u32, u32)> + '_ {
+pub(crate) fn entries(cells: &[Cell]) -> impl DoubleEndedIterator<Item = (usize, u32, u32)> + '_ {
     cells.iter().enumerate().filter_map(|(slot, cell)| match *cell {
         Cell::Entry { address, length, .. } => Some((slot, address, length)),
         _ => None,
@@ -128,6 +130,84 @@ fn well_formed(addresses: &[u32], tags: &[u32]) -> Result<Vec<Cell>, Fault> {
 /// The number of used slots, or the first refusal.
 pub fn check(addresses: &[u32], tags: &[u32]) -> Result<usize, Fault> {
     Ok(entries(&well_formed(addresses, tags)?).count())
+}
+
+/// Whether a slot breaks S1 to S4, by what stands before it.
+fn breaks_s1_to_s4(cells: &[Cell], slot: usize) -> bool {
+    let before = &cells[..slot];
+    match cells[slot] {
+        Cell::Bad => true,
+        Cell::Free => entries(before).any(|(_, _, length)| length <= 15),
+        Cell::Entry { length, .. } => {
+            let nearest = entries(before).next_back();
+            nearest.is_some_and(|(_, _, n)| length > n) || length >= 16 && before.contains(&Cell::Free)
+        }
+    }
+}
+
+/// The unbroken run of a length just before a slot. It ends at the slot before and, going back, at the first slot that is free or of
+/// another length.
+fn run_before(cells: &[Cell], slot: usize, length: u32) -> Range<usize> {
+    let of_length = |cell: &Cell| matches!(*cell, Cell::Entry { length: n, .. } if n == length);
+    let other = cells[..slot].iter().rposition(|cell| !of_length(cell));
+    other.map_or(0, |other| other + 1)..slot
+}
+
+/// Whether an entry among some slots has this prefix.
+fn has(cells: &[Cell], address: u32, length: u32) -> bool {
+    entries(cells).any(|(_, a, n)| (a, n) == (address, length))
+}
+
+/// Whether a slot's prefix stands in the run of its own length just before it.
+fn repeats_in_run(cells: &[Cell], slot: usize) -> bool {
+    match cells[slot] {
+        Cell::Entry { address, length, .. } => has(&cells[run_before(cells, slot, length)], address, length),
+        _ => false,
+    }
+}
+
+/// What `check` answers, found slot by slot: S1 to S4 by what stands before the slot, then S5 by its run alone.
+pub fn check_by_runs(addresses: &[u32], tags: &[u32]) -> Result<usize, Fault> {
+    let cells = cells(addresses, tags)?;
+    let broken = |&slot: &usize| breaks_s1_to_s4(&cells, slot) || repeats_in_run(&cells, slot);
+    match (0..cells.len()).find(broken) {
+        Some(slot) => Err((7, slot)),
+        None => Ok(entries(&cells).count()),
+    }
+}
+
+/// S1 to S4 alone, rule by rule: the first refusal, if there is any.
+pub fn check_s1_to_s4(addresses: &[u32], tags: &[u32]) -> Result<(), Fault> {
+    let cells = cells(addresses, tags)?;
+    match [s1, s2, s3, s4].iter().filter_map(|rule| rule(&cells)).min() {
+        Some(slot) => Err((7, slot)),
+        None => Ok(()),
+    }
+}
+
+/// An entry of an image, and whether its prefix stands before it.
+#[derive(Clone, PartialEq, Eq, Debug)]
+pub struct Repeat {
+    /// The entry's slot.
+    pub slot: usize,
+    /// The run of its own length just before it.
+    pub run: Range<usize>,
+    /// Whether any slot before it has its prefix.
+    pub before: bool,
+    /// Whether a slot of the run has it.
+    pub in_run: bool,
+}
+
+/// The entries of an image whose size is good, from slot 0 upward, each with its repeats.
+pub fn repeats(addresses: &[u32], tags: &[u32]) -> Result<Vec<Repeat>, Fault> {
+    let cells = cells(addresses, tags)?;
+    let of_entry = |(slot, address, length)| Repeat {
+        slot,
+        run: run_before(&cells, slot, length),
+        before: has(&cells[..slot], address, length),
+        in_run: repeats_in_run(&cells, slot),
+    };
+    Ok(entries(&cells).map(of_entry).collect())
 }
 
 /// The hop of the first used slot that matches `q`, 0 where none does.

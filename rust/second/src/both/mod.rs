@@ -67,8 +67,26 @@ pub fn remove(address: u32, length: u32) -> Update {
     }
 }
 
-/// What both programs answer to a test of the image.
+/// The most slots of an image that `check` asks by runs too, which takes time by the square of a run.
+const SLOTS_BY_RUNS: usize = 1024;
+
+/// What both programs answer to a test of the image, the second one rule by rule and, of all but the largest images, by runs.
 pub fn check(image: &Image) -> Result<usize, Fault> {
+    if image.tags.len() <= SLOTS_BY_RUNS {
+        return check_by_runs(image);
+    }
+    check_by_rules(image)
+}
+
+/// What both programs answer to a test of the image, the second one rule by rule and by runs.
+pub fn check_by_runs(image: &Image) -> Result<usize, Fault> {
+    let found = check_by_rules(image);
+    assert_eq!(plain::check_by_runs(&image.addresses, &image.tags), found, "{image:?}");
+    found
+}
+
+/// What both programs answer to a test of the image, the second one rule by rule.
+fn check_by_rules(image: &Image) -> Result<usize, Fault> {
     let lent = image.clone();
     let found = counted(
         Call::SlotCheck,
