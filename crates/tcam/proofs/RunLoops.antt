@@ -1,8 +1,8 @@
 -- Where the run just before slot i begins, and what it tells of slot i.
-use Prim.Native.Nat.{ℕ, zero, suc, _+_, _-_}
+use Prim.Native.Nat.{ℕ, zero, suc, _+_, _-_, _≤_}
 use mathlib.Core.Path.{_≡_, refl, sym, ap, _∙_}
 use mathlib.Core.Bool.{Bool, true, false, cond, _||_}
-use mathlib.Core.List.{List, [], _∷_}
+use mathlib.Core.List.{List, []}
 use native.Mathlib.Omega.{arith}
 use native.Mathlib.Numerals.{add-one}
 use lib.Dec.{eqb}
@@ -42,28 +42,27 @@ run-past {ad} {ts} {r} {s} {next} i f e w =
         let z : i + 1 + suc k ≡ suc (i + 1 + k) = omega arith in
         rw z (behind-free (not-false (isFree (cellAt ad ts (i + 1 + k))) (or-parts (isUsed (cellAt ad ts (i + 1 + k))) _ h .0)))
 
--- behind an entry: its run goes on, or begins with it
-run-used : {at : ℕ → Cell} {run n i : ℕ} → RunBefore at run n i → isFree (at i) ≡ false
-    → RunBefore at (cond (eqb (lengthIn (at i)) n) run i) (lengthIn (at i)) (i + 1)
-run-used {at} {run} {n} {i} b u = rw add-one (byTest (eqb (lengthIn (at i)) n)
-    (λ t. rw t (record { within = omega (arith, b .within); is = goes t }))
-    (λ t. rw t (record { within = omega arith; is = begins t })))
-  where
-    goes : eqb (lengthIn (at i)) n ≡ true → (m : ℕ) → runOf m (before at (suc i)) ≡ cond (eqb m (lengthIn (at i))) (placesFrom at run (suc i - run)) []
-    goes t m = byTest (eqb m (lengthIn (at i)))
-        (λ e. let f = eqb-true m (lengthIn (at i)) e in
-        let z : suc i - run ≡ suc (i - run) = omega (arith, b .within) in
-        let y : run + (i - run) ≡ i = omega (arith, b .within) in
-        rw (e, z, y, u, eq-eqb (lengthIn (at i)) m (sym f), b .is m, f, t))
-        (λ e. let f = eqb-false m (lengthIn (at i)) e in rw (e, u, ne-eqb (lengthIn (at i)) m (λ x. f (sym x))))
+-- behind an entry in slot i: the run of its length just before it begins at slot r, and goes on with it
+with-entry : {at : ℕ → Cell} {i : ℕ} (r : ℕ) → r ≤ i → isFree (at i) ≡ false → runOf (lengthIn (at i)) (before at i) ≡ placesFrom at r (i - r) →
+    RunBefore at r (lengthIn (at i)) (i + 1)
+with-entry {at} {i} r l u h = rw add-one (record {
+  within = omega arith;
+  is = λ m. byTest (eqb m (lengthIn (at i)))
+      (λ e.
+      let z : suc i - r ≡ suc (i - r) = omega arith in
+      let y : r + (i - r) ≡ i = omega arith in
+      let f = eqb-true m (lengthIn (at i)) e in
+      rw (e, z, y, u, eq-eqb (lengthIn (at i)) m (sym f), f, h))
+      (λ e. rw (e, u, ne-eqb (lengthIn (at i)) m (λ x. eqb-false m (lengthIn (at i)) e (sym x))));
+})
 
-    begins : eqb (lengthIn (at i)) n ≡ false → (m : ℕ) → runOf m (before at (suc i)) ≡ cond (eqb m (lengthIn (at i))) (placesFrom at i (suc i - i)) []
-    begins t m = byTest (eqb m (lengthIn (at i)))
-        (λ e. let f = eqb-true m (lengthIn (at i)) e in
-        let z : suc i - i ≡ 1 = omega arith in
-        let y : i + 0 ≡ i = omega arith in
-        rw (e, z, y, u, eq-eqb (lengthIn (at i)) m (sym f), b .is m, f, t))
-        (λ e. let f = eqb-false m (lengthIn (at i)) e in rw (e, u, ne-eqb (lengthIn (at i)) m (λ x. f (sym x))))
+-- it is the run that was kept, or none and begins with the entry
+run-used : {at : ℕ → Cell} {run n i : ℕ} → RunBefore at run n i → isFree (at i) ≡ false →
+    RunBefore at (cond (eqb (lengthIn (at i)) n) run i) (lengthIn (at i)) (i + 1)
+run-used {at} {run} {n} {i} b u =
+    either (λ r. RunBefore at r (lengthIn (at i)) (i + 1)) (eqb (lengthIn (at i)) n)
+    (λ t. with-entry run (b .within) u (rw t at (b .is (lengthIn (at i)))))
+    (λ t. with-entry i (omega arith) u (let z : i - i ≡ 0 = omega arith in rw (z, b .is (lengthIn (at i)), t)))
 
 pub run-with : {W : ℕ} {at : ℕ → Cell} {i : ℕ} {s next : Seen} → RunBefore at (s .run .0) (s .nearest .0) i → {c : Cell} → c ≡ at i →
     isFree c ≡ false → SeenWith W c i s next → RunBefore at (next .run .0) (next .nearest .0) (i + 1)

@@ -1,11 +1,11 @@
 -- What the image test keeps of the slots before a slot, for S1 to S4, and what it tells of that slot.
 use Prim.Native.Nat.{ℕ}
-use mathlib.Core.Path.{_≡_, refl, sym, ap, _∙_}
+use mathlib.Core.Path.{_≡_, refl, sym, ap}
 use mathlib.Core.Bool.{Bool, true, false, not, _&&_, _||_, or-false}
 use mathlib.Core.List.{List, [], _∷_}
 use lib.Dec.{ltb}
 use borrow.Author.Tests.{le-ltb}
-use Rattle.tcam.specs.Slots.{Cell, isFree, isUpper, isLower, lengthIn, keepsS1, misplaced, repeats, breaks}
+use Rattle.tcam.specs.Slots.{Cell, isFree, isUpper, lengthIn, keepsS1, misplaced, repeats, breaks}
 use Rattle.tcam.specs.Loops.{SeenBefore, SeenWith, SeenPast, misplacedBy}
 use Rattle.tcam.specs.declared.image.Seen.{Seen}
 use Rattle.tcam.proofs.Cells.{used-short}

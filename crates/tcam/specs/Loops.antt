@@ -12,7 +12,7 @@ use Rattle.route.specs.Lists.{any}
 use Rattle.route.specs.Loops.{before, placesFrom}
 use Rattle.tcam.specs.Slots.{Cell, cell, cells, maxSlots, slotFault, isFree, isUpper, isLower, lengthIn, keepsS1, longerThanNearest}
 use Rattle.tcam.specs.Plans.{Write, write, firstSlot, lastSlot, ofLength, rising, falling, isSome, chain}
-use Rattle.tcam.specs.Runs.{runOf}
+use Rattle.tcam.specs.Runs.{runOf, InOrder}
 use Rattle.tcam.specs.Download.{From, isToCome, nextIn, Next, entryOrEnd, nextUnless}
 use Rattle.tcam.specs.declared.image.Seen.{Seen}
 use Rattle.tcam.specs.declared.plan.Lengths.{Lengths}
@@ -57,6 +57,12 @@ pub record SeenPast (to : ℕ) (seen next : Seen) : Type 0 where
 pub record RunBefore (at : ℕ → Cell) (run n i : ℕ) : Type 0 where
   pub within : run ≤ i
   pub is : (m : ℕ) → runOf m (before at i) ≡ cond (eqb m n) (placesFrom at run (i - run)) []
+
+-- the slots before slot i keep S1 to S4; what is kept of them for these rules, and the run for S5
+pub record TestedBefore (W : ℕ) (at : ℕ → Cell) (s : Seen) (i : ℕ) : Type 0 where
+  pub inOrder : InOrder W (before at i)
+  pub seen : SeenBefore W (before at i) s
+  pub run : RunBefore at (s .run .0) (s .nearest .0) i
 
 -- whether a slot breaks one of S1 to S4
 abbrev pub misplacedBy : ℕ → Cell → Seen → Bool

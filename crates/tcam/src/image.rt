@@ -17,8 +17,7 @@ ghost use Rattle.route.specs.Loops.{before, placesFrom};
 ghost use Rattle.route.specs.Shown.{verdictOf, counted};
 ghost use Rattle.tcam.specs.Slots.{maxSlots, cells, repeats, breaks, imageFault, tableFault, usedIn, slotCheck};
 ghost use Rattle.tcam.specs.Shown.{cellOf};
-ghost use Rattle.tcam.specs.Runs.{InOrder};
-ghost use Rattle.tcam.specs.Loops.{cellAt, addressAt, isAddress, isUsed, misplacedBy, SeenBefore, SeenWith, SeenPast, RunBefore, FreeEnd};
+ghost use Rattle.tcam.specs.Loops.{cellAt, addressAt, isAddress, isUsed, misplacedBy, SeenWith, SeenPast, TestedBefore, FreeEnd};
 use crate::MAX_SLOTS;
 use crate::slots::Cell;
 use crate::slots::cell_at;
@@ -133,8 +132,7 @@ fn stands_between(addresses: &[u32], from: Slot, to: Slot, address: u32) -> bool
 // where it has another length than the nearest entry, its run is empty.
 fn breaks_rule(addresses: &[u32], tags: &[u32], seen: Seen, noted: bool, i: Slot) -> bool
     requires { ⌜ (length (now addresses) ≡ length (now tags)) × (i .0 < length (now addresses)) ⌝ }
-    requires { ⌜ SeenBefore 32 (before (cellAt (now addresses) (now tags)) (i .0)) seen × InOrder 32 (before (cellAt (now addresses) (now tags)) (i .0)) ⌝ }
-    requires { ⌜ RunBefore (cellAt (now addresses) (now tags)) (seen .run .0) (seen .nearest .0) (i .0) ⌝ }
+    requires { ⌜ TestedBefore 32 (cellAt (now addresses) (now tags)) seen (i .0) ⌝ }
     requires { ⌜ (noted ≡ false → repeats (cellAt (now addresses) (now tags) (i .0)) (before (cellAt (now addresses) (now tags)) (i .0)) ≡ false) ⌝ }
     ensures { λ r. ⌜ r ≡ breaks 32 (cellAt (now (addresses .entry)) (now (tags .entry)) (i .0)) (before (cellAt (now (addresses .entry)) (now (tags .entry))) (i .0)) ⌝ }
 {

@@ -1,5 +1,5 @@
-//! The lesson of docs/CLASS.md: four beliefs about route tables and five errors, each with what the tables really do, and a table
-//! that is read out while it is updated. `make class` prints it.
+//! The lesson of docs/CLASS.md: four beliefs about route tables and five errors, each with what the tables really do, a table that
+//! is read out while it is updated, and what the test of a table compares. `make class` prints it.
 
 use hawkmortar::{dxr, list, slots, Download, DxrTable, Entry, NextHop, Plan, Prefix, RangeTable, Refusal, Table};
 use std::fmt::Write as _;
@@ -15,6 +15,20 @@ const BOARD: [Route; 5] = [
     ("10.20.4.0/24", 3),
     ("10.20.4.9/32", 2),
     ("0.0.0.0/0", 7),
+];
+
+/// A set with several prefixes of some lengths.
+const RUNS: [Route; 10] = [
+    ("10.20.4.9/32", 1),
+    ("10.20.4.10/32", 2),
+    ("10.20.1.0/24", 3),
+    ("10.20.2.0/24", 4),
+    ("10.20.3.0/24", 5),
+    ("10.20.4.0/24", 6),
+    ("10.20.0.0/16", 7),
+    ("10.30.0.0/16", 8),
+    ("10.0.0.0/8", 9),
+    ("0.0.0.0/0", 10),
 ];
 
 fn main() -> Result<(), Refusal> {
@@ -38,6 +52,7 @@ pub fn lesson() -> Result<String, Refusal> {
         locked_reader,
         download_while_updates_go_on,
         reader_by_slot,
+        compared_with_a_run,
     ];
     for part in parts {
         part(&mut page)?;
@@ -220,8 +235,7 @@ fn locked_reader(page: &mut String) -> Result<(), Refusal> {
     Ok(())
 }
 
-/// 11. A download of the board's table, with a set and a removal on its way: a prefix moves to a slot that was read, one is added that
-/// comes before the one given last, one is removed before the walk comes to it.
+/// 11. A download of the board's table: one prefix moves to a slot that was read, one is added behind the walk, one removed ahead.
 fn download_while_updates_go_on(page: &mut String) -> Result<(), Refusal> {
     line(page, "11. A download while updates go on");
     let mut table = board()?;
@@ -271,6 +285,45 @@ fn reader_by_slot(page: &mut String) -> Result<(), Refusal> {
         line(page, &format!("{first}; {name}, {writes} writes; {rest}"));
     }
     Ok(())
+}
+
+/// 13. A table with its runs, and how many comparisons each entry takes; then a prefix copied within its run, and behind it.
+fn compared_with_a_run(page: &mut String) -> Result<(), Refusal> {
+    line(page, "13. What S5 compares");
+    let table = filled(12, &RUNS)?;
+    let (with_runs, with_all) = show_runs(page, &table);
+    let counts = format!("comparisons: {with_runs} with the runs, {with_all} with all earlier entries");
+    line(page, &counts);
+    for (from, to) in [(2, 5), (2, 7)] {
+        let (mut addresses, mut tags) = (table.addresses().to_vec(), table.tags().to_vec());
+        (addresses[to], tags[to]) = (addresses[from], tags[from]);
+        let refused = slots::check(&addresses, &tags).expect_err("a prefix in two slots");
+        line(page, &format!("{} in slot {to} too: {refused}", in_slot(&table, from)));
+    }
+    Ok(())
+}
+
+/// The slots of a table, by runs; the comparisons of all entries with their runs, and with all earlier entries.
+fn show_runs(page: &mut String, table: &Table) -> (usize, usize) {
+    let mut lengths = vec![None; table.slots()];
+    for entry in table.iter() {
+        lengths[entry.slot] = Some(entry.prefix.length());
+    }
+    let (mut slot, mut earlier, mut with_runs, mut with_all) = (0, 0, 0, 0);
+    for run in lengths.chunk_by(|one, next| one == next) {
+        line(page, &run[0].map_or("pool".to_string(), |n| format!("run of /{n}")));
+        for in_run in 0..run.len() {
+            let shown = format!("  slot {slot:<2}  {:<13}", in_slot(table, slot));
+            if run[0].is_none() {
+                line(page, shown.trim_end());
+            } else {
+                line(page, &format!("{shown}  {in_run} of {earlier} earlier entries"));
+                (with_runs, with_all, earlier) = (with_runs + in_run, with_all + earlier, earlier + 1);
+            }
+            slot += 1;
+        }
+    }
+    (with_runs, with_all)
 }
 
 /// The prefix in a slot.

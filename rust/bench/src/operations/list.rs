@@ -1,6 +1,6 @@
 //! A list in three rows.
 
-use super::{list_of, number};
+use super::{in_one_word, list_of, number};
 use crate::measure::{Measure, Operation};
 use bench::plain;
 use second::random::Rows;
@@ -22,17 +22,13 @@ pub fn all(measure: &mut dyn Measure) {
         }
     }
     let operation = Operation::new("  in one word of the filter", "4096 entries", 1).asked(1.10);
-    check(measure, operation, &in_one_word(4096));
+    check(measure, operation, &list_in_one_word(4096));
 }
 
 /// Entries that have one word of the library's filter, so that each is compared with all earlier ones.
-fn in_one_word(entries: usize) -> Rows {
-    let is_there = |address: &u32| {
-        let hash = u64::from(*address) * 2_654_435_769 + 32 * 1_540_483_477;
-        (hash >> 20) % 4096 == 7
-    };
+fn list_in_one_word(entries: usize) -> Rows {
     Rows {
-        addresses: (0..).filter(is_there).take(entries).collect(),
+        addresses: in_one_word(32, entries),
         lengths: vec![32; entries],
         hops: vec![1; entries],
     }

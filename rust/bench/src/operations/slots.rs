@@ -12,10 +12,17 @@ pub fn all(measure: &mut dyn Measure) {
         lookup(measure, slots, calls);
     }
     for (slots, calls) in [(64, 2000), (1024, 20), (4096, 1)] {
-        check(measure, slots, calls);
+        check(measure, operation("slot check", slots, calls), &rows(slots));
         plan_set(measure, slots, calls);
         plan_remove(measure, slots, calls);
     }
+    let one_word = |lengths: &str| operation(&format!("  in one word of the filter, {lengths}"), 4096, 1);
+    check(
+        measure,
+        one_word("lengths mixed").asked(0.18),
+        &in_one_word(&mixed_lengths()),
+    );
+    check(measure, one_word("length 32").asked(0.32), &in_one_word(&[(32, 4096)]));
     for slots in [64, 1024, 4096] {
         apply(measure, slots, 20_000);
     }
@@ -71,16 +78,45 @@ fn lookup(measure: &mut dyn Measure, slots: u32, calls: u32) {
     );
 }
 
-fn check(measure: &mut dyn Measure, slots: u32, calls: u32) {
-    let (addresses, tags) = rows(slots);
+/// Lengths of 4,096 entries with the number of each, falling: three in five are 24, the others spread over 32 to 8 as far as one
+/// word of the filter has prefixes of them, and more of 32 for what is missing.
+fn mixed_lengths() -> Vec<(u32, usize)> {
+    const OF_24: usize = 4096 * 3 / 5;
+    let others = (8..32).rev().filter(|&length| length != 24);
+    let mut lengths: Vec<(u32, usize)> = others
+        .map(|length| (length, super::in_one_word(length, 68).len()))
+        .collect();
+    let of_32 = 4096 - OF_24 - lengths.iter().map(|&(_, entries)| entries).sum::<usize>();
+    lengths.extend([(32, of_32), (24, OF_24)]);
+    lengths.sort_by(|one, other| other.cmp(one));
+    lengths
+}
+
+/// Rows of 4,096 used slots that have one word of the filter, of these lengths.
+fn in_one_word(lengths: &[(u32, usize)]) -> (Vec<u32>, Vec<u32>) {
+    let of_length = |&(length, entries): &(u32, usize)| {
+        let addresses = super::in_one_word(length, entries).into_iter();
+        addresses.map(move |address| (address, length << 16 | 1))
+    };
+    let rows: (Vec<u32>, Vec<u32>) = lengths.iter().flat_map(of_length).unzip();
+    assert_eq!(hawkmortar::slots::check(&rows.0, &rows.1), Ok(4096));
+    rows
+}
+
+/// Plain Rust compares an entry with every earlier one.
+fn check(measure: &mut dyn Measure, operation: Operation, (addresses, tags): &(Vec<u32>, Vec<u32>)) {
+    assert_eq!(
+        hawkmortar::slots::check(addresses, tags),
+        plain::slots::check(addresses, tags).map_err(|_| unreachable!("the image is good")),
+    );
     measure.compare(
-        operation("slot check", slots, calls),
+        operation,
         [
             &mut || {
-                let _ = black_box(hawkmortar::slots::check(black_box(&addresses), black_box(&tags)));
+                let _ = black_box(hawkmortar::slots::check(black_box(addresses), black_box(tags)));
             },
             &mut || {
-                let _ = black_box(plain::slots::check(black_box(&addresses), black_box(&tags)));
+                let _ = black_box(plain::slots::check(black_box(addresses), black_box(tags)));
             },
         ],
     );

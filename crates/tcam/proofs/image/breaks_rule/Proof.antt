@@ -33,31 +33,31 @@ long c = c .length .ensures ∙ ap lengthIn (c .before .before .before .before .
 returns : tie.Need-returns
 returns c =
     let s = c .before .before .before .before .before in
-    breaks-misplaced (s .pre .1 .0 .0) (here s) (sym (placed (c .before)) ∙ c .if1 .taken)
+    breaks-misplaced (s .pre .1 .0 .seen) (here s) (sym (placed (c .before)) ∙ c .if1 .taken)
 
 returns-2 : tie.Need-returns-2
 returns-2 c =
     let e = c .before .before in
     let s = e .before .before .before .before .before in
-    breaks-free (s .pre .1 .0 .0) (here s) (sym (placed (e .before)) ∙ e .if1 .left) (sym (free (c .before)) ∙ c .if2 .taken)
+    breaks-free (s .pre .1 .0 .seen) (here s) (sym (placed (e .before)) ∙ e .if1 .left) (sym (free (c .before)) ∙ c .if2 .taken)
 
 -- S5 decides where the slot breaks none of S1 to S4, and by its run
 decides : (c : tie.Else1) → let s = c .before .before .before .before .before in repeats (here s) (earlier s) ≡ breaks 32 (here s) (earlier s)
 decides c =
     let s = c .before .before .before .before .before in
-    breaks-placed (s .pre .1 .0 .0) (here s) (sym (placed (c .before)) ∙ c .if1 .left)
+    breaks-placed (s .pre .1 .0 .seen) (here s) (sym (placed (c .before)) ∙ c .if1 .left)
 
 by-run : (c : tie.Else1) → let s = c .before .before .before .before .before in repeatsInRun (here s) (earlier s) ≡ breaks 32 (here s) (earlier s)
 by-run c =
     let s = c .before .before .before .before .before in
-    let fine = sym (misplaced-is (s .pre .1 .0 .0) (here s)) ∙ sym (placed (c .before)) ∙ c .if1 .left in
-    sym (repeats-in-run 32 (here s) (earlier s) (fine, s .pre .1 .0 .1)) ∙ decides c
+    let fine = sym (misplaced-is (s .pre .1 .0 .seen) (here s)) ∙ sym (placed (c .before)) ∙ c .if1 .left in
+    sym (repeats-in-run 32 (here s) (earlier s) (fine, s .pre .1 .0 .inOrder)) ∙ decides c
 
 returns-3 : tie.Need-returns-3
 returns-3 c =
     let e = c .before .before .before in
     let s = e .before .before .before .before .before in
-    sym (s .pre .1 .1 .1 (not-true _ (c .if3 .taken))) ∙ decides e
+    sym (s .pre .1 .1 (not-true _ (c .if3 .taken))) ∙ decides e
 
 returns-4 : tie.Need-returns-4
 returns-4 c =
@@ -65,7 +65,7 @@ returns-4 c =
     let f = l .before .before in
     let e = f .before .before in
     let s = e .before .before .before .before .before in
-    run-other (s .args .addresses .now) (s .args .tags .now) (s .pre .1 .1 .0) (here s) (sym (free (f .before)) ∙ f .if2 .left)
+    run-other (s .args .addresses .now) (s .args .tags .now) (s .pre .1 .0 .run) (here s) (sym (free (f .before)) ∙ f .if2 .left)
     (ne-eqb _ _ (λ x. c .if4 .taken (long l ∙ x)))
     ∙ by-run e
 
@@ -76,7 +76,7 @@ returns-5 c =
     let e = f .before .before in
     let s = e .before .before .before .before .before in
     c .stands-between .ensures
-    ∙ run-same (s .args .addresses .now) (s .args .tags .now) (s .pre .1 .1 .0) (here s) (sym (free (f .before)) ∙ f .if2 .left)
+    ∙ run-same (s .args .addresses .now) (s .args .tags .now) (s .pre .1 .0 .run) (here s) (sym (free (f .before)) ∙ f .if2 .left)
     (eq-eqb _ _ (sym (long l) ∙ c .before .if4 .left)) (ap (λ x. x .address) (e .before .before .cell-at .ensures))
     ∙ by-run e
 

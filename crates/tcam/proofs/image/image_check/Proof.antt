@@ -38,8 +38,8 @@ breaks-rule-requires c κs =
     let inv = e .before .before .loop .inv in (
       (search needs, search needs),
       (
-        (inv .0 .seen, inv .0 .inOrder),
-        (inv .1, λ k. cells-new (inv .2) (e .cell-at .ensures) (n .before .length .ensures) (sym (n .note .ensures .asked) ∙ k)),
+        record { inOrder = inv .0 .inOrder; seen = inv .0 .seen; run = inv .1 },
+        λ k. cells-new (inv .2) (e .cell-at .ensures) (n .before .length .ensures) (sym (n .note .ensures .asked) ∙ k),
       ),
     )
 

@@ -1,5 +1,4 @@
 -- The run of the nearest length goes on; any other begins with the entry.
-use borrow.Author.Needs.{needs}
 use borrow.Author.Tests.{eq-eqb, ne-eqb}
 use Rattle.tcam.proofs.image.Seen.run_with.Statement.{statement}
 use Rattle.tcam.proofs.image.Seen.run_with.Tie as tie
