@@ -32,8 +32,8 @@ pub record Claims : Type 0 where
   -- before the plan.
   pub reapplied : (W : ℕ) → Reapplied W
   -- Where no slot up to and including an entry's breaks S1 to S4, it repeats an earlier prefix exactly when it repeats one in the unbroken
-  -- run of its own length just before it, and there its address tells. So the image test by runs finds the same first broken slot on
-  -- every image.
+  -- run of its own length just before it. In that run its prefix stands exactly where its address does. So the image test by runs finds
+  -- the same first broken slot on every image.
   pub runHolds : (W : ℕ) → RunHolds W
   -- The download gives the prefixes of a table one to a call, in order of address, then length, while updates go on. Each call gives the
   -- least prefix ahead, with its first slot's tag. Over any images the list rises, a prefix present in every image of a finished walk is

@@ -1,8 +1,8 @@
 -- Why S5 is cheap: an entry is compared with the run of its own length alone.
 --
 -- S2 to S4 put the entries of one length next to each other. So where they hold up to an entry, an earlier copy of its prefix stands in the
--- unbroken run of its length just before it, or nowhere; and in that run lengths are equal, so that addresses tell. An image test that
--- looks there alone finds the same first broken slot on every image, whatever it breaks.
+-- unbroken run of its length just before it, or nowhere; and since lengths are equal in that run, a copy stands exactly where its address
+-- does. An image test that looks there alone finds the same first broken slot on every image, whatever it breaks.
 use Prim.Native.Nat.{ℕ}
 use mathlib.Core.Path.{_≡_}
 use mathlib.Core.List.{List, [], _∷_}

@@ -1,13 +1,11 @@
 -- A search among what stands before a place, one by one or block by block, left where something has the property.
 use Prim.Native.Nat.{ℕ, zero, suc, _+_, _-_, _≤_, _<_}
-use mathlib.Core.Path.{_≡_, refl, sym, _∙_}
+use mathlib.Core.Path.{_≡_, sym, _∙_}
 use mathlib.Core.Bool.{Bool, true, false, _||_, or-true, or-assoc}
-use mathlib.Core.List.{List, [], _∷_}
 use native.Mathlib.Omega.{arith}
 use native.Mathlib.Numerals.{add-one}
 use Rattle.route.specs.Lists.{any}
 use Rattle.route.specs.Loops.{before, placesFrom}
-use Rattle.route.proofs.Tests.{neither, is-false, clash, or-parts}
 
 -- the search for what stands before place i has come to place j, and nothing before that has the property
 pub record NoneBefore {A : Type 0} (p : A → Bool) (at : ℕ → A) (i j : ℕ) : Type 0 where
@@ -17,13 +15,6 @@ pub record NoneBefore {A : Type 0} (p : A → Bool) (at : ℕ → A) (i j : ℕ)
 module _ {A : Type 0} {p : A → Bool} {at : ℕ → A} {i j : ℕ} (u : NoneBefore p at i j) where
   pub none-end : i ≤ j → any p (before at i) ≡ false
   none-end l = let z : i ≡ j = omega arith in rw z (u .none)
-
--- where nothing has a property, nothing has a stronger one
-pub none-stronger : {A : Type 0} (p q : A → Bool) → ((x : A) → p x ≡ true → q x ≡ true) → (xs : List A) → any q xs ≡ false → any p xs ≡ false
-none-stronger p q h [] e = refl
-none-stronger p q h (x ∷ xs) e =
-    let parts = or-parts (q x) (any q xs) e in
-    neither (p x) (any p xs) (is-false (p x) (λ y. clash (h x y) (parts .0))) (none-stronger p q h xs (parts .1))
 
 -- what stands before place m + k stands before place m or at the k places from it on
 any-before : {A : Type 0} (p : A → Bool) (at : ℕ → A) (m k : ℕ) → any p (before at (m + k)) ≡ (any p (placesFrom at m k) || any p (before at m))

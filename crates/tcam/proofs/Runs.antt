@@ -1,5 +1,5 @@
 -- A slot that repeats an earlier prefix repeats one in the run of its own length, where no slot up to it breaks S1 to S4. So the image
--- test by runs finds the same first broken slot. In a run lengths are equal, and addresses tell.
+-- test by runs finds the same first broken slot. In a run a prefix stands exactly where its address does.
 use Prim.Native.Nat.{ℕ, _+_, _/_}
 use mathlib.Core.Path.{_≡_, refl, ap}
 use mathlib.Core.Bool.{Bool, true, false, not, _&&_, _||_, and-true, or-true}
@@ -12,17 +12,17 @@ use Rattle.route.specs.Lists.{any}
 use Rattle.tcam.specs.Slots.{Cell, isFree, isUpper, isLower, lengthIn, keepsS1, longerThanNearest, samePrefixIn, misplaced, repeats, breaks, imageFault}
 use Rattle.tcam.specs.Plans.{ofLength}
 use Rattle.tcam.specs.Runs.{runOf, repeatsInRun, faultByRuns, InOrder}
-use Rattle.route.proofs.Searches.{none-stronger}
+use Rattle.route.proofs.Members.{none-stronger}
 use Rattle.route.proofs.Tests.{byTest, both, neither, all-three, and-parts, or-parts, not-both, is-false, clash}
 
 -- a slot that breaks none of S1 to S4, by rules
-pub record Placed (W : ℕ) (c : Cell) (before : List Cell) : Type 0 where
-  pub keeps : keepsS1 W c ≡ true
-  pub falls : isFree c ≡ false → longerThanNearest c before ≡ false
-  pub packed : (isUpper W c && any isFree before) ≡ false
-  pub sunk : isFree c ≡ true → any (isLower W) before ≡ false
+record Placed (W : ℕ) (c : Cell) (before : List Cell) : Type 0 where
+  keeps : keepsS1 W c ≡ true
+  falls : isFree c ≡ false → longerThanNearest c before ≡ false
+  packed : (isUpper W c && any isFree before) ≡ false
+  sunk : isFree c ≡ true → any (isLower W) before ≡ false
 
-pub placed : (W : ℕ) (c : Cell) (before : List Cell) → misplaced W c before ≡ false → Placed W c before
+placed : (W : ℕ) (c : Cell) (before : List Cell) → misplaced W c before ≡ false → Placed W c before
 placed W c before e =
     let s4 = or-parts _ _ e in
     let s3 = or-parts _ _ (s4 .0) in
@@ -30,12 +30,12 @@ placed W c before e =
     record { keeps = not-false (keepsS1 W c) (s2 .0); falls = λ u. rw u at (s2 .1); packed = s3 .1; sunk = λ u. rw u at (s4 .1) }
 
 -- an entry shorter than n
-abbrev pub shorter : ℕ → Cell → Bool
+abbrev shorter : ℕ → Cell → Bool
 shorter n x = not (isFree x) && ltb (lengthIn x) n
 
 module _ (W : ℕ) where
   -- S2 holds up to a slot: no entry before it is shorter
-  pub none-shorter : (c : Cell) (before : List Cell) → InOrder W before → longerThanNearest c before ≡ false → any (shorter (lengthIn c)) before ≡ false
+  none-shorter : (c : Cell) (before : List Cell) → InOrder W before → longerThanNearest c before ≡ false → any (shorter (lengthIn c)) before ≡ false
   none-shorter c [] o e = refl
   none-shorter c (b ∷ bs) o e = byTest (isFree b)
       (λ t. rw t (none-shorter c bs (o .1) (rw t at e)))
@@ -43,10 +43,12 @@ module _ (W : ℕ) where
       let le = ltb-false (lengthIn b) (lengthIn c) h in
       rw (t, h)
       (none-stronger (shorter (lengthIn c)) (shorter (lengthIn b))
-      (λ x y. let k = and-parts (not (isFree x)) _ y in both _ _ (k .0) (lt-ltb (lengthIn x) (lengthIn b) (omega (arith, ltb-true (lengthIn x) (lengthIn c) (k .1)))))
+      (λ x y.
+      let k = and-parts (not (isFree x)) _ y in
+      both _ _ (k .0) (lt-ltb (lengthIn x) (lengthIn b) (omega (arith, ltb-true (lengthIn x) (lengthIn c) (k .1)))))
       bs (none-shorter b bs (o .1) (placed W b bs (o .0) .falls t))))
 
-  -- a test that only entries with the prefix of c pass
+  -- a test that only entries with the prefix of c pass, as the test of S5 is
   module _ (c : Cell) (p : Cell → Bool) (only : (x : Cell) → p x ≡ true → samePrefixIn c x ≡ true) where
     has-prefix : (x : Cell) → p x ≡ true → (isFree x ≡ false) × (lengthIn x ≡ lengthIn c)
     has-prefix x e =
@@ -77,7 +79,7 @@ module _ (W : ℕ) where
         (λ t. rw t (outside b bs o u packed least t))
 
     -- so where S1 to S4 hold up to c, it is passed before c exactly where it is passed in the run
-    pub run-holds : (before : List Cell) → InOrder W (c ∷ before) → isFree c ≡ false → any p before ≡ any p (runOf (lengthIn c) before)
+    run-holds : (before : List Cell) → InOrder W (c ∷ before) → isFree c ≡ false → any p before ≡ any p (runOf (lengthIn c) before)
     run-holds before o u =
         let q = placed W c before (o .0) in
         in-run before (o .1) u (q .packed) (none-shorter c before (o .1) (q .falls u))

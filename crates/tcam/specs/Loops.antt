@@ -53,7 +53,7 @@ pub record SeenPast (to : ℕ) (seen next : Seen) : Type 0 where
   pub lower : next .lower ≡ seen .lower
   pub run : next .run .0 ≡ to
 
--- the run that ends just before slot i: the entries of length n from slot `run` on, none where that is slot i
+-- the run that ends just before slot i has length n and begins at slot `run`, slot i itself where it is empty; no other length has one
 pub record RunBefore (at : ℕ → Cell) (run n i : ℕ) : Type 0 where
   pub within : run ≤ i
   pub is : (m : ℕ) → runOf m (before at i) ≡ cond (eqb m n) (placesFrom at run (i - run)) []
@@ -82,7 +82,7 @@ pub record FreeEnd (ad ts : List ℕ) (from r : ℕ) : Type 0 where
   pub free : any isUsed (placesFrom (cellAt ad ts) from (r - from)) ≡ false
   pub used : r < length ad → isFree (cellAt ad ts r) ≡ false
 
--- both sides of the pool are one: the first slots of rising lengths, or the last slots of falling ones
+-- the four cases of an update are two: the first slots of rising lengths, or the last slots of falling ones
 abbrev pub edge : Bool → (Cell → Bool) → List Cell → Option ℕ
 edge true p cs = firstSlot p 0 cs
 edge false p cs = lastSlot p 0 cs

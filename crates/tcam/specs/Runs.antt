@@ -1,6 +1,6 @@
 -- Why S5 is cheap: an entry is compared only with the entries of its own length just before it.
 --
--- S2 makes the lengths fall from slot to slot, so entries of one length have no entry of another between them. S3 and S4 keep free slots
+-- S2 lets no entry be longer than the one before it, so entries of one length have none of another between them. S3 and S4 keep free slots
 -- out as well: an entry before a free slot is above the pool, and one behind it is below. So the entries of one length are one unbroken
 -- run, and where S1 to S4 hold up to a slot, an earlier copy of its prefix can stand only in the run that ends just before it.
 use Prim.Native.Nat.{ℕ, _+_}

@@ -3,9 +3,9 @@
 // One pass in rising order keeps what S2 to S4 ask of the slots before: the nearest used one's
 // length, whether one is free, whether one is below the pool. S2 to S4 also put the entries of one
 // length next to each other. So S5 compares an entry only with the run of its own length just before
-// it, and there with the addresses alone; the pass keeps where that run begins. The filter comes
-// first: where it says that a prefix was not noted, nothing is compared. Behind a free slot the free
-// ones are passed over block by block.
+// it, and there by address alone; the pass keeps where that run begins. The filter comes first: where
+// it says that a prefix was not noted, nothing is compared. Behind a free slot the free slots that
+// follow are passed over block by block.
 ghost use mathlib.Core.Path.{_≡_};
 ghost use Prim.Native.Nat.{_+_, _-_, _≤_, _<_};
 ghost use mathlib.Core.Bool.{false, cond};
@@ -34,8 +34,8 @@ use route::lesser;
 const BLOCK: usize = 64;
 
 // What stands before a slot, as far as S2 to S5 ask: the nearest entry's length, whether a slot is
-// free, whether an entry is below the pool, and where the run of the nearest length begins that ends
-// just before the slot.
+// free, whether an entry is below the pool, and where the run of the nearest length that ends just
+// before the slot begins; at the slot itself where there is none.
 pub struct Seen {
     pub nearest: Length,
     pub free: bool,
@@ -44,8 +44,8 @@ pub struct Seen {
 }
 
 impl Seen {
-    // Where the run begins with an entry of length n more, in slot i: it goes on where the length is
-    // the nearest one, and else begins with the entry.
+    // Where the run of length n begins that an entry in slot i is in: it goes on where n is the nearest
+    // length, and else begins with the entry.
     fn run_with(self, n: Length, i: Slot) -> Slot
         ensures { λ r. ⌜ r .0 ≡ cond (eqb (n .0) (self .nearest .0)) (self .run .0) (i .0) ⌝ }
     {
@@ -111,7 +111,8 @@ fn stands_among(addresses: &[u32], from: Slot, to: Slot, address: u32) -> bool
     found
 }
 
-// The same, block by block, up to the first block that has it.
+// Whether a slot from slot `from` up to slot `to` holds the address, asked block by block up to the
+// first block that has it.
 fn stands_between(addresses: &[u32], from: Slot, to: Slot, address: u32) -> bool
     requires { ⌜ (from .0 ≤ to .0) × (to .0 ≤ length (now addresses)) ⌝ }
     ensures { λ r. ⌜ r ≡ any (isAddress address) (placesFrom (addressAt (now (addresses .entry))) (from .0) (to .0 - from .0)) ⌝ }

@@ -1,9 +1,9 @@
 // Planned updates: the writes that set or remove a prefix, put into a lent row.
 //
 // The table is tested, the prefix is sought, and one pass over the slots finds every length's edge
-// slot. Sets and removals, above the pool and below it, are then one chain of copies: for each of some
-// lengths, in turn, its edge entry goes to the open slot, and its own slot is open next. The writes
-// are counted first, so that a row without room for them is left as it was.
+// slot. Sets and removals, above the pool and below it, are then one chain of copies: for each length
+// between the prefix's and the pool, in turn, its edge entry goes to the open slot, and its own slot is
+// open next. The writes are counted first, so that a row without room for them is left as it was.
 ghost use mathlib.Core.Path.{_≡_};
 ghost use mathlib.Core.Bool.{cond};
 ghost use mathlib.Core.List.{[], _∷_};

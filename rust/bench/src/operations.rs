@@ -34,7 +34,8 @@ fn list_of(entries: u32) -> Rows {
     }
 }
 
-/// The first prefixes of a length that have one word of the library's largest filter, at most so many: it cannot tell them apart.
+/// The first prefixes of a length that have one word of the library's largest filter, at most so many. Once the word's bits are set, it
+/// says of each that it may have been noted.
 fn in_one_word(length: u32, most: usize) -> Vec<u32> {
     let is_there = |address: &u64| (address * 2_654_435_769 + u64::from(length) * 1_540_483_477) >> 20 & 4095 == 7;
     let addresses = (0..1 << length).map(|prefix: u64| prefix << (32 - length));

@@ -445,7 +445,8 @@ fn in_one_word(slots: usize, length: u32, most: usize) -> Vec<u32> {
     of_word.map(|address| address as u32).take(most).collect()
 }
 
-/// Tables in which the filter says of every prefix that it may stand before.
+/// Tables whose prefixes have one word of the filter: once its bits are set, the filter says of every prefix that it may stand before,
+/// and entries that repeat nothing are compared too.
 fn tables_in_one_word() -> Vec<Image> {
     let tables: [(usize, &[(u32, usize)]); 6] = [
         (64, &[(24, 64)]),
@@ -467,7 +468,7 @@ fn tables_in_one_word() -> Vec<Image> {
     tables.map(of_table).into()
 }
 
-/// Repeats that no filter leaves out, at every place of the runs of 64 slots.
+/// Repeats in tables where entries that repeat nothing are compared too, at every place of the runs of 64 slots.
 #[test]
 fn a_prefix_twice_in_one_word_of_the_filter() {
     let mut images = 0;

@@ -67,7 +67,7 @@ pub fn remove(address: u32, length: u32) -> Update {
     }
 }
 
-/// The most slots of an image that `check` asks by runs too, which takes time by the square of a run.
+/// The most slots of an image that `check` asks by runs too: the time of that grows with the square of the slots.
 const SLOTS_BY_RUNS: usize = 1024;
 
 /// What both programs answer to a test of the image, the second one rule by rule and, of all but the largest images, by runs.

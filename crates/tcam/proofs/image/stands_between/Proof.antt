@@ -20,7 +20,9 @@ loop-holds c = from-start (search needs)
 returns : tie.Need-returns Inv-loop μ-loop
 returns c =
     let b = c .before in
-    sym (from-hit (from-block (b .before .before .before .loop .inv) (b .before .lesser .result) (search needs) (search needs) (b .stands-among .ensures)) (rw (c .if1 .taken)))
+    sym (from-hit
+    (from-block (b .before .before .before .loop .inv) (b .before .lesser .result) (search needs) (search needs) (b .stands-among .ensures))
+    (rw (c .if1 .taken)))
 
 loop-again : tie.Need-loop-again Inv-loop μ-loop
 loop-again c =
