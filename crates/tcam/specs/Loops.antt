@@ -21,10 +21,11 @@ use Rattle.tcam.specs.declared.plan.Lengths.{Lengths}
 abbrev pub cellAt : List ℕ → List ℕ → ℕ → Cell
 cellAt ad ts i = cell (getD ad i 0) (getD ts i 0)
 
--- the address of slot i, and whether it is a
+-- the address of slot i
 abbrev pub addressAt : List ℕ → ℕ → ℕ
 addressAt ad i = getD ad i 0
 
+-- whether b is the address a
 abbrev pub isAddress : ℕ → ℕ → Bool
 isAddress a b = eqb b a
 

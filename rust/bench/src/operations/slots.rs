@@ -19,10 +19,10 @@ pub fn all(measure: &mut dyn Measure) {
     let one_word = |lengths: &str| operation(&format!("  in one word of the filter, {lengths}"), 4096, 1);
     check(
         measure,
-        one_word("lengths mixed").asked(0.18),
+        one_word("lengths mixed").asked(0.25),
         &in_one_word(&mixed_lengths()),
     );
-    check(measure, one_word("length 32").asked(0.32), &in_one_word(&[(32, 4096)]));
+    check(measure, one_word("length 32").asked(0.44), &in_one_word(&[(32, 4096)]));
     for slots in [64, 1024, 4096] {
         apply(measure, slots, 20_000);
     }
