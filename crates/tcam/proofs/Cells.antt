@@ -1,5 +1,5 @@
 -- S1 of one slot: what it says of a used one, the ways in which it is tested, and which slots keep it: those of an image without a
--- fault, and an entry whose prefix and hop are not refused.
+-- fault, and an entry whose prefix and hop are not refused. Then S1 to S4 of a slot, by rules.
 use Prim.Native.Nat.{ℕ, zero, suc, _+_, _%_, _≤_, _<_}
 use mathlib.Core.Path.{_≡_, refl, sym, ap, _∙_}
 use mathlib.Core.Logic.{_≢_}
@@ -12,8 +12,9 @@ use borrow.Author.Tests.{eqb-true, eqb-false, eq-eqb, ne-eqb, leb-true, le-leb, 
 use Rattle.route.specs.Rule.{span}
 use Rattle.route.specs.Limits.{maxHop}
 use Rattle.route.specs.Refusals.{fine, faultIf, prefixFault, hopFault, imageRefusal}
-use Rattle.tcam.specs.Slots.{Cell, cell, free, tagOf, isFree, lengthIn, hopIn, keepsS1, slotFault}
-use Rattle.route.proofs.Tests.{and-parts, all-three, or-right, is-false, inTurn, passed}
+use Rattle.route.specs.Lists.{any}
+use Rattle.tcam.specs.Slots.{Cell, cell, free, tagOf, isFree, isUpper, isLower, lengthIn, hopIn, keepsS1, longerThanNearest, misplaced, slotFault}
+use Rattle.route.proofs.Tests.{and-parts, all-three, or-parts, or-right, is-false, inTurn, passed}
 use Rattle.route.proofs.Accepted.{prefix-good, hop-good}
 
 module _ (W : ℕ) (c : Cell) where
@@ -90,3 +91,17 @@ module _ (W a n : ℕ) (f : prefixFault W 0 a n ≡ fine) (h : ℕ) (g : hopFaul
   entry-keeps =
       let p = prefix-good W 0 a n f in
       rw (entry-used, entry-length, le-leb n W (p .0), eq-eqb (a % span W n) 0 (p .1), entry-hop, ne-eqb h 0 (λ e. omega (arith, hop)))
+
+-- a slot that breaks none of S1 to S4
+pub record Placed (W : ℕ) (c : Cell) (before : List Cell) : Type 0 where
+  pub keeps : keepsS1 W c ≡ true
+  pub falls : isFree c ≡ false → longerThanNearest c before ≡ false
+  pub packed : (isUpper W c && any isFree before) ≡ false
+  pub sunk : isFree c ≡ true → any (isLower W) before ≡ false
+
+pub placed : (W : ℕ) (c : Cell) (before : List Cell) → misplaced W c before ≡ false → Placed W c before
+placed W c before e =
+    let s4 = or-parts _ _ e in
+    let s3 = or-parts _ _ (s4 .0) in
+    let s2 = or-parts (not (keepsS1 W c)) _ (s3 .0) in
+    record { keeps = not-false (keepsS1 W c) (s2 .0); falls = λ u. rw u at (s2 .1); packed = s3 .1; sunk = λ u. rw u at (s4 .1) }

@@ -6,28 +6,15 @@ use mathlib.Core.Bool.{Bool, true, false, not, _&&_, _||_, and-true, or-true}
 use mathlib.Core.List.{List, [], _∷_}
 use native.Mathlib.Omega.{arith}
 use lib.Dec.{eqb, ltb}
-use borrow.Author.Tests.{eqb-true, eqb-false, ltb-true, ltb-false, lt-ltb, eq-eqb, leb-false, not-true, not-false}
+use borrow.Author.Tests.{eqb-true, eqb-false, ltb-true, ltb-false, lt-ltb, eq-eqb, leb-false, not-true}
 use Rattle.route.specs.Refusals.{Verdict, faultIf, _then_, imageRefusal}
 use Rattle.route.specs.Lists.{any}
-use Rattle.tcam.specs.Slots.{Cell, isFree, isUpper, isLower, lengthIn, keepsS1, longerThanNearest, samePrefixIn, misplaced, repeats, breaks, imageFault}
+use Rattle.tcam.specs.Slots.{Cell, isFree, isUpper, isLower, lengthIn, longerThanNearest, samePrefixIn, misplaced, repeats, breaks, imageFault}
 use Rattle.tcam.specs.Plans.{ofLength}
 use Rattle.tcam.specs.Runs.{runOf, repeatsInRun, faultByRuns, InOrder}
 use Rattle.route.proofs.Members.{none-stronger}
 use Rattle.route.proofs.Tests.{byTest, both, neither, all-three, and-parts, or-parts, not-both, is-false, clash}
-
--- a slot that breaks none of S1 to S4, by rules
-record Placed (W : ℕ) (c : Cell) (before : List Cell) : Type 0 where
-  keeps : keepsS1 W c ≡ true
-  falls : isFree c ≡ false → longerThanNearest c before ≡ false
-  packed : (isUpper W c && any isFree before) ≡ false
-  sunk : isFree c ≡ true → any (isLower W) before ≡ false
-
-placed : (W : ℕ) (c : Cell) (before : List Cell) → misplaced W c before ≡ false → Placed W c before
-placed W c before e =
-    let s4 = or-parts _ _ e in
-    let s3 = or-parts _ _ (s4 .0) in
-    let s2 = or-parts (not (keepsS1 W c)) _ (s3 .0) in
-    record { keeps = not-false (keepsS1 W c) (s2 .0); falls = λ u. rw u at (s2 .1); packed = s3 .1; sunk = λ u. rw u at (s4 .1) }
+use Rattle.tcam.proofs.Cells.{placed}
 
 -- an entry shorter than n
 abbrev shorter : ℕ → Cell → Bool

@@ -7,17 +7,17 @@ use mathlib.Core.Logic.{Iff·symm}
 use mathlib.Core.Bool.{true, false, cond, not}
 use mathlib.Core.List.{List, [], _∷_, List·Memᴰ·not-nil}
 use native.Mathlib.Omega.{arith}
-use borrow.Author.Tests.{not-false}
 use Rattle.route.specs.Rule.{Route, matches, Match, nothing, best, longest, hopOf, answer}
 use Rattle.route.specs.Refusals.{fine, faultIf, value, imageRefusal}
 use Rattle.route.specs.RightHop.{_∈_}
 use Rattle.route.specs.Lists.{any}
-use Rattle.tcam.specs.Slots.{Cell, lengthIn, isFree, cells, keepsS1, longerThanNearest, samePrefixIn, breaks, imageFault, slotFault, firstMatch, slotLookup}
+use Rattle.tcam.specs.Slots.{Cell, lengthIn, isFree, cells, keepsS1, longerThanNearest, samePrefixIn, misplaced, repeats, breaks, imageFault, slotFault, firstMatch, slotLookup}
 use Rattle.tcam.specs.Tables.{routeOf, routesIn, TableOf}
 use Rattle.route.proofs.Tests.{orders, byTest, or-parts, inTurn, passed}
 use Rattle.route.proofs.RouteSet.{RouteSet}
 use Rattle.route.proofs.Members.{eachOf}
 use Rattle.route.proofs.LongestMatch.{Found, skip-unmatched, longest-first, SameSet, finds, agree}
+use Rattle.tcam.proofs.Cells.{placed}
 
 -- S2 of each used slot; `before` are the slots before the first, nearest first
 abbrev pub Ordered : List Cell → List Cell → Type 0
@@ -84,12 +84,9 @@ pub slot : (W i : ℕ) (before : List Cell) (c : Cell) (cs : List Cell) → imag
     × (imageFault W (i + 1) (c ∷ before) cs ≡ fine)
 slot W i before c cs e =
     let t = inTurn (faultIf (breaks W c before) imageRefusal i) _ e in
-    let upToS5 = passed (breaks W c before) imageRefusal i (t .0) in
-    let S5 = or-parts _ _ upToS5 in
-    let upToS3 = or-parts _ _ (S5 .0) .0 in
-    let upToS2 = or-parts _ _ upToS3 .0 in
-    let h = or-parts (not (keepsS1 W c)) _ upToS2 in
-    (not-false (keepsS1 W c) (h .0), (λ u. rw u at (h .1)), (λ u. rw u at (S5 .1)), t .1)
+    let parts = or-parts (misplaced W c before) (repeats c before) (passed (breaks W c before) imageRefusal i (t .0)) in
+    let q = placed W c before (parts .0) in
+    (q .keeps, q .falls, (λ u. rw u at (parts .1)), t .1)
 
 pub imageOrdered : (W i : ℕ) (before cs : List Cell) → imageFault W i before cs ≡ fine → Ordered before cs
 imageOrdered W i before [] e = tt
