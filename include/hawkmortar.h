@@ -37,7 +37,7 @@ extern "C" {
 /* The most range words of a DXR table that is built: enough room for any list. */
 #define HAWKMORTAR_MAX_RANGE_WORDS 12288
 
-/* The most writes of a plan that sets a prefix, and of one that removes it; a write is three numbers. */
+/* The most writes of a plan that sets a prefix, and of one that removes it or mends a table; a write is three numbers. */
 #define HAWKMORTAR_MAX_SET_WRITES 17
 #define HAWKMORTAR_MAX_REMOVE_WRITES 18
 
@@ -155,6 +155,22 @@ struct hawkmortar_outcome hawkmortar_plan_remove(
     const uint32_t *addresses, size_t addresses_len,
     const uint32_t *tags, size_t tags_len,
     uint32_t address, uint32_t length,
+    uint32_t *plan, size_t plan_len);
+
+/*
+ * Plans to mend a table that an update left half-written: one that keeps S1 to S4 and has exactly one
+ * prefix in two slots, with equal tags. The plan removes the later copy. Every number of its writes leaves
+ * a table that answers as this one does, and the whole leaves one that keeps S1 to S5. A mend that was cut
+ * short can be planned again.
+ * Value: the number of writes, which stand in the plan as those of hawkmortar_plan_set: at most
+ * HAWKMORTAR_MAX_REMOVE_WRITES, and 0 for a table that keeps S1 to S5, whatever the plan's room.
+ * Refusals: 8; 7, the place being the first slot of the whole table that breaks one of S1 to S4, or else
+ * the first that repeats an earlier prefix with another tag or is the second slot to repeat any; 9 as of
+ * hawkmortar_plan_set.
+ */
+struct hawkmortar_outcome hawkmortar_plan_mend(
+    const uint32_t *addresses, size_t addresses_len,
+    const uint32_t *tags, size_t tags_len,
     uint32_t *plan, size_t plan_len);
 
 /*

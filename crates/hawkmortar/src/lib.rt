@@ -9,6 +9,7 @@ ghost use Rattle.route.specs.Lists.{listCheck, listLookup};
 ghost use Rattle.prefixes.specs.Prefixes.{prefixesCheck, prefixesLookup};
 ghost use Rattle.tcam.specs.Slots.{slotCheck, slotLookup};
 ghost use Rattle.tcam.specs.Plans.{planSet, planRemove, planAnswer, rowAfter};
+ghost use Rattle.tcam.specs.Mend.{planMend};
 ghost use Rattle.tcam.specs.Applies.{applyAnswer, appliedAddresses, appliedTags};
 ghost use Rattle.tcam.specs.Download.{start, past, download};
 ghost use Rattle.tcam.specs.Shown.{nextOf};
@@ -121,6 +122,15 @@ pub extern "C" fn hawkmortar_plan_remove(
     ensures { λ r. ⌜ now (plan .exit) ≡ rowAfter (planRemove 32 (now (addresses .entry)) (now (tags .entry)) address length (ListN.length (now (plan .entry)))) (now (plan .entry)) ⌝ }
 {
     of_counted(tcam::plan::plan_remove(addresses, tags, address, Length(length), plan))
+}
+
+// Plans a mend; the value is the number of writes, which the plan then holds.
+#[no_mangle]
+pub extern "C" fn hawkmortar_plan_mend(addresses: &[u32], tags: &[u32], plan: &mut [u32]) -> Outcome
+    ensures { λ r. ⌜ r ≡ outcome (planAnswer (planMend 32 (now (addresses .entry)) (now (tags .entry)) (ListN.length (now (plan .entry))))) ⌝ }
+    ensures { λ r. ⌜ now (plan .exit) ≡ rowAfter (planMend 32 (now (addresses .entry)) (now (tags .entry)) (ListN.length (now (plan .entry)))) (now (plan .entry)) ⌝ }
+{
+    of_counted(tcam::mend::plan_mend(addresses, tags, plan))
 }
 
 // Applies the first k writes of a plan; the value is k.

@@ -19,6 +19,7 @@ use Rattle.route.specs.Refusals.{fine}
 use Rattle.tcam.specs.Slots.{Cell, cells, isFree, lengthIn, keepsS1, slotFault}
 use Rattle.tcam.specs.Plans.{firstSlot, lastSlot, orElse, ofLength}
 use Rattle.tcam.specs.Loops.{cellAt, edge, slotIn, asSlot, groupOf, EdgesOf, visited}
+use Rattle.tcam.proofs.OrElse.{or-else-assoc, or-else-none, or-else-cond}
 use Rattle.tcam.proofs.Rows.{cells-at, getD-cells}
 use Rattle.tcam.proofs.Cells.{used-short, slot-keeps}
 
@@ -66,18 +67,6 @@ module _ (p : Cell → Bool) (ad ts : List ℕ) (e : length ad ≡ length ts) wh
       let next : length ad - k ≡ i + 1 = omega arith in
       let here : length ad - 1 - k ≡ i = omega arith in
       rw (cells-at ad ts i e (omega arith), here, latest-first k (omega arith), next)
-
-  or-else-assoc : (x y z : Option ℕ) → orElse (orElse x y) z ≡ orElse x (orElse y z)
-  or-else-assoc none y z = refl
-  or-else-assoc (some x) y z = refl
-
-  or-else-none : (x : Option ℕ) → orElse x none ≡ x
-  or-else-none none = refl
-  or-else-none (some s) = refl
-
-  or-else-cond : (b : Bool) (i : ℕ) (z : Option ℕ) → orElse (cond b (some i) none) z ≡ cond b (some i) z
-  or-else-cond true i z = refl
-  or-else-cond false i z = refl
 
   -- from slot 0 on: the last of the slots up to there
   latest-last : (k : ℕ) → k ≤ length ad →

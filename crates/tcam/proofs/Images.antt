@@ -1,95 +1,85 @@
--- The image test: the slots before slot i break no rule, an entry or free slots more keep that, and the filter has their prefixes. Then the
--- count of the used slots.
+-- A pass over the slots that stops at the first one that fails a test: none before slot i fails, an entry or free slots more keep that,
+-- and the filter has their prefixes. Then the count of the used slots.
 use Prim.Native.Nat.{ℕ, zero, suc, _+_, _-_, _≤_, _<_, min}
-use mathlib.Core.Path.{_≡_, refl, sym, _∙_}
+use mathlib.Core.Path.{_≡_, refl, sym}
 use mathlib.Core.Bool.{Bool, true, false, cond, not}
-use mathlib.Core.List.{List, [], _∷_}
+use mathlib.Core.List.{List, []}
 use native.Mathlib.Omega.{arith}
 use native.Mathlib.Numerals.{add-one}
 use lib.Dec.{eqb}
 use lib.ListN.{length, drop, drop-of-length-le}
-use borrow.Author.Tests.{not-false, eqb-true}
+use borrow.Author.Tests.{eqb-true}
 use Rattle.route.specs.Refusals.{fine, fault, imageRefusal}
-use Rattle.route.specs.Lists.{any}
 use Rattle.route.specs.Loops.{before, placesFrom}
-use Rattle.tcam.specs.Slots.{Cell, cells, isFree, lengthIn, samePrefixIn, misplaced, repeats, breaks, imageFault, usedIn}
+use Rattle.tcam.specs.Slots.{Cell, cells, isFree, lengthIn, samePrefixIn, misplaced, repeats, firstFault, usedIn}
 use Rattle.tcam.specs.Runs.{InOrder}
-use Rattle.tcam.specs.Loops.{cellAt, isUsed, SeenBefore, SeenWith, SeenPast, FreeEnd}
-use Rattle.tcam.specs.declared.image.Seen.{Seen}
+use Rattle.tcam.specs.Loops.{cellAt, isUsed, FreeBetween, FreeEnd}
 use Rattle.route.specs.Filter.{Noting, isNoted}
-use Rattle.route.proofs.Tests.{or-parts, all-three, not-both, clash}
+use Rattle.route.proofs.Tests.{all-three, not-both, clash}
 use Rattle.route.proofs.Notes.{NotedBefore, noted-none, noted-turn, noted-pass}
 use Rattle.route.proofs.Searches.{FoundFrom, from-block}
 use Rattle.tcam.proofs.Rows.{cells-at, cells-in-both, cells-past}
-use Rattle.tcam.proofs.SeenBefore.{misplaced-free, misplaced-is, breaks-free, seen-with, seen-past, past-again}
+use Rattle.tcam.proofs.Tested.{free-at, in-order-at}
 
--- the slots before slot i break no rule: what is left gives the whole verdict
-pub record ImageBefore (W : ℕ) (ad ts : List ℕ) (s : Seen) (i : ℕ) : Type 0 where
+-- no slot before slot i fails the test: what is left gives the whole verdict
+pub record FaultBefore (fails : Cell → List Cell → Bool) (ad ts : List ℕ) (i : ℕ) : Type 0 where
   pub within : i ≤ length ad
   pub equal : length ad ≡ length ts
-  pub seen : SeenBefore W (before (cellAt ad ts) i) s
-  pub inOrder : InOrder W (before (cellAt ad ts) i)
-  pub left : imageFault W i (before (cellAt ad ts) i) (cells (drop i ad) (drop i ts)) ≡ imageFault W 0 [] (cells ad ts)
+  pub left : firstFault fails i (before (cellAt ad ts) i) (cells (drop i ad) (drop i ts)) ≡ firstFault fails 0 [] (cells ad ts)
 
-module _ {W : ℕ} {ad ts : List ℕ} {s : Seen} {i : ℕ} (h : ImageBefore W ad ts s i) where
-  module _ (l : i < length ad) {b : Bool} (e : b ≡ breaks W (cellAt ad ts i) (before (cellAt ad ts) i)) where
-    pub image-stop : b ≡ true → fault imageRefusal i ≡ imageFault W 0 [] (cells ad ts)
-    image-stop t = rw (cells-at ad ts i (h .equal) l, ← e, t) at (h .left)
+pub fault-start : {fails : Cell → List Cell → Bool} {ad ts : List ℕ} → length ad ≡ length ts → FaultBefore fails ad ts 0
+fault-start e = record { within = omega arith; equal = e; left = refl }
 
-    image-turn : {next : Seen} → b ≡ false → SeenBefore W (cellAt ad ts i ∷ before (cellAt ad ts) i) next → ImageBefore W ad ts next (i + 1)
-    image-turn t w = record {
+module _ {fails : Cell → List Cell → Bool} {ad ts : List ℕ} {i : ℕ} (h : FaultBefore fails ad ts i) where
+  module _ (l : i < length ad) {b : Bool} (e : b ≡ fails (cellAt ad ts i) (before (cellAt ad ts) i)) where
+    pub fault-stop : b ≡ true → fault imageRefusal i ≡ firstFault fails 0 [] (cells ad ts)
+    fault-stop t = rw (cells-at ad ts i (h .equal) l, ← e, t) at (h .left)
+
+    fault-turn : b ≡ false → FaultBefore fails ad ts (i + 1)
+    fault-turn t = record {
       within = omega arith;
       equal = h .equal;
-      seen = rw add-one w;
-      inOrder = rw add-one (or-parts (misplaced W (cellAt ad ts i) (before (cellAt ad ts) i)) _ (sym e ∙ t) .0, h .inOrder);
       left = rw add-one (rw (cells-at ad ts i (h .equal) l, ← e, t, add-one) at (h .left));
     }
 
-    -- an entry more
-    pub image-with : b ≡ false → {c : Cell} → c ≡ cellAt ad ts i → isFree c ≡ false → {next : Seen} → SeenWith W c i s next →
-        ImageBefore W ad ts next (i + 1)
-    image-with t {c} is u w = image-turn t (rw is at (seen-with {c = c} (h .seen) u w))
+  pub fault-end : length ad ≤ i → fine ≡ firstFault fails 0 [] (cells ad ts)
+  fault-end l = rw (drop-of-length-le ad l) at (h .left)
 
-  pub image-end : length ad ≤ i → fine ≡ imageFault W 0 [] (cells ad ts)
-  image-end l = rw (drop-of-length-le ad l) at (h .left)
+-- slots that do not fail are passed over
+fault-over : {fails : Cell → List Cell → Bool} {ad ts : List ℕ} {i : ℕ} → FaultBefore fails ad ts i → (k : ℕ) → i + k ≤ length ad →
+    ((j : ℕ) → i ≤ j → j < i + k → fails (cellAt ad ts j) (before (cellAt ad ts) j) ≡ false) → FaultBefore fails ad ts (i + k)
+fault-over {i = i} h zero n f = let z : i + 0 ≡ i = omega arith in rw z h
+fault-over {i = i} h (suc k) n f =
+    let z : i + suc k ≡ i + k + 1 = omega arith in
+    rw z (fault-turn (fault-over h k (omega arith) (λ j l m. f j l (omega arith))) (omega arith) (sym (f (i + k) (omega arith) (omega arith))) refl)
+
+-- a slot that does not fail, and the free ones behind it, which do not where they keep S1 to S4
+pub fault-past : {fails : Cell → List Cell → Bool} {ad ts : List ℕ} {i : ℕ} {b : Bool} (W : ℕ) → FaultBefore fails ad ts i → i < length ad →
+    b ≡ fails (cellAt ad ts i) (before (cellAt ad ts) i) → b ≡ false →
+    ((c : Cell) (bs : List Cell) → isFree c ≡ true → misplaced W c bs ≡ false → fails c bs ≡ false) →
+    {r : ℕ} → FreeBetween ad ts (i + 1) r → InOrder W (before (cellAt ad ts) r) → FaultBefore fails ad ts r
+fault-past {ad = ad} {ts = ts} {i = i} W h l e t f {r} x o =
+    let z : i + 1 + (r - (i + 1)) ≡ r = omega (arith, x .behind) in
+    rw z at (fault-over (fault-turn h l e t) (r - (i + 1)) (omega (arith, x .behind, x .within))
+    (λ j m n. f (cellAt ad ts j) _ (free-at x j m (omega arith)) (in-order-at W (cellAt ad ts) r o j (omega arith))))
 
 -- the slots from slot `from` up to slot j are free: they end at slot j where it is used or past the rows, else where those from slot j on
 -- end
 module _ {ad ts : List ℕ} {from j : ℕ} (h : FoundFrom isUsed (cellAt ad ts) from (length ad) j false) where
+  free-there : FreeBetween ad ts from j
+  free-there = record { behind = h .behind; within = h .within; free = sym (h .is) }
+
   pub free-stop : {c : Cell} → c ≡ cellAt ad ts j → isFree c ≡ false → FreeEnd ad ts from j
-  free-stop is u = record { behind = h .behind; within = h .within; free = sym (h .is); used = λ l. rw is at u }
+  free-stop is u = record { between = free-there; used = λ l. rw is at u }
 
   pub free-none : length ad ≤ j → FreeEnd ad ts from j
-  free-none n = record { behind = h .behind; within = h .within; free = sym (h .is); used = λ l. absurd (omega arith) }
+  free-none n = record { between = free-there; used = λ l. absurd (omega arith) }
 
   pub free-further : {r : ℕ} → FreeEnd ad ts j r → FreeEnd ad ts from r
   free-further {r} e =
-      let g = from-block h r (e .behind) (e .within) (sym (e .free)) in
-      record { behind = g .behind; within = e .within; free = sym (g .is); used = e .used }
-
--- where no entry before is below the pool, free slots break no rule
-module _ {W : ℕ} {ad ts : List ℕ} {s : Seen} {i : ℕ} (h : ImageBefore W ad ts s i) where
-  image-free : {to : ℕ} → SeenPast to s s → s .lower ≡ false → (k : ℕ) → i + k ≤ length ad → any isUsed (placesFrom (cellAt ad ts) i k) ≡ false →
-      ImageBefore W ad ts s (i + k)
-  image-free w l zero n e = let z : i + 0 ≡ i = omega arith in rw z h
-  image-free w l (suc k) n e =
-      let c = cellAt ad ts (i + k) in
-      let parts = or-parts (isUsed c) _ e in
-      let f = not-false (isFree c) (parts .0) in
-      let b = image-free w l k (omega arith) (parts .1) in
-      let z : i + suc k ≡ i + k + 1 = omega arith in
-      rw z (image-turn b (omega arith) (breaks-free (b .seen) c (sym (misplaced-free W c s f) ∙ l) f) refl (seen-past {c = c} (b .seen) f w))
-
--- a free slot that breaks no rule, and the free slots behind it
-module _ {W : ℕ} {ad ts : List ℕ} {s : Seen} {i : ℕ} (h : ImageBefore W ad ts s i) (l : i < length ad) {b : Bool} where
-  pub image-past : b ≡ breaks W (cellAt ad ts i) (before (cellAt ad ts) i) → b ≡ false → isFree (cellAt ad ts i) ≡ true →
-      {r : ℕ} {next : Seen} → FreeEnd ad ts (i + 1) r → SeenPast r s next → ImageBefore W ad ts next r
-  image-past e t f {r} x w =
-      let c = cellAt ad ts i in
-      let low = misplaced-free W c s f ∙ misplaced-is (h .seen) c ∙ or-parts (misplaced W c (before (cellAt ad ts) i)) _ (sym e ∙ t) .0 in
-      let z : i + 1 + (r - (i + 1)) ≡ r = omega (arith, x .behind) in
-      rw z at (image-free (image-turn h l e t (seen-past {c = c} (h .seen) f w)) (past-again w) (w .lower ∙ low) (r - (i + 1))
-      (omega (arith, x .behind, x .within)) (x .free))
+      let b = e .between in
+      let g = from-block h r (b .behind) (b .within) (sym (b .free)) in
+      record { between = record { behind = g .behind; within = b .within; free = sym (g .is) }; used = e .used }
 
 -- the filter has the prefix of each used slot before slot i
 pub record CellsNoted (ad ts row : List ℕ) (i : ℕ) : Type 0 where
@@ -109,7 +99,7 @@ module _ {ad ts row : List ℕ} {i : ℕ} (h : CellsNoted ad ts row i) where
       repeats (cellAt ad ts i) (before (cellAt ad ts) i) ≡ false
   cells-new {c} is e k = rw is at (not-both (not (isFree c)) _ (λ u j. clash j (noted-none (h .each) c (rw e at k))))
 
-  pub cells-passed : {r : ℕ} → FreeEnd ad ts i r → CellsNoted ad ts row r
+  pub cells-passed : {r : ℕ} → FreeBetween ad ts i r → CellsNoted ad ts row r
   cells-passed {r} e =
       let z : i + (r - i) ≡ r = omega (arith, e .behind) in
       record { each = rw z at (noted-pass (h .each) {has = isUsed} (λ c b u. rw u) (r - i) (e .free)) }

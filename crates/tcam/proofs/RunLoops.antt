@@ -11,7 +11,7 @@ use Rattle.route.specs.Lists.{any}
 use Rattle.route.specs.Loops.{before, placesFrom}
 use Rattle.tcam.specs.Slots.{Cell, isFree, lengthIn}
 use Rattle.tcam.specs.Runs.{runOf, repeatsInRun}
-use Rattle.tcam.specs.Loops.{cellAt, addressAt, isAddress, isUsed, SeenWith, SeenPast, RunBefore, FreeEnd}
+use Rattle.tcam.specs.Loops.{cellAt, addressAt, isAddress, isUsed, SeenWith, SeenPast, RunBefore, FreeBetween}
 use Rattle.tcam.specs.declared.image.Seen.{Seen}
 use Rattle.route.proofs.Tests.{byTest, either, or-parts}
 use Rattle.tcam.proofs.Runs.{run-addresses}
@@ -30,7 +30,7 @@ run-none = at-start (λ m. refl)
 behind-free : {at : ℕ → Cell} {n i : ℕ} → isFree (at i) ≡ true → RunBefore at (suc i) n (suc i)
 behind-free {at} {n} {i} e = at-start (λ m. rw e)
 
-pub run-past : {ad ts : List ℕ} {r : ℕ} {s next : Seen} (i : ℕ) → isFree (cellAt ad ts i) ≡ true → FreeEnd ad ts (i + 1) r → SeenPast r s next →
+pub run-past : {ad ts : List ℕ} {r : ℕ} {s next : Seen} (i : ℕ) → isFree (cellAt ad ts i) ≡ true → FreeBetween ad ts (i + 1) r → SeenPast r s next →
     RunBefore (cellAt ad ts) (next .run .0) (next .nearest .0) r
 run-past {ad} {ts} {r} {s} {next} i f e w =
     let z : i + 1 + (r - (i + 1)) ≡ r = omega (arith, e .behind) in

@@ -17,12 +17,12 @@ use Rattle.route.proofs.Tests.{byTest, both, neither, all-three, and-parts, or-
 use Rattle.tcam.proofs.Cells.{placed}
 
 -- an entry shorter than n
-abbrev shorter : ℕ → Cell → Bool
+abbrev pub shorter : ℕ → Cell → Bool
 shorter n x = not (isFree x) && ltb (lengthIn x) n
 
 module _ (W : ℕ) where
   -- S2 holds up to a slot: no entry before it is shorter
-  none-shorter : (c : Cell) (before : List Cell) → InOrder W before → longerThanNearest c before ≡ false → any (shorter (lengthIn c)) before ≡ false
+  pub none-shorter : (c : Cell) (before : List Cell) → InOrder W before → longerThanNearest c before ≡ false → any (shorter (lengthIn c)) before ≡ false
   none-shorter c [] o e = refl
   none-shorter c (b ∷ bs) o e = byTest (isFree b)
       (λ t. rw t (none-shorter c bs (o .1) (rw t at e)))
@@ -66,7 +66,7 @@ module _ (W : ℕ) where
         (λ t. rw t (outside b bs o u packed least t))
 
     -- so where S1 to S4 hold up to c, it is passed before c exactly where it is passed in the run
-    run-holds : (before : List Cell) → InOrder W (c ∷ before) → isFree c ≡ false → any p before ≡ any p (runOf (lengthIn c) before)
+    pub run-holds : (before : List Cell) → InOrder W (c ∷ before) → isFree c ≡ false → any p before ≡ any p (runOf (lengthIn c) before)
     run-holds before o u =
         let q = placed W c before (o .0) in
         in-run before (o .1) u (q .packed) (none-shorter c before (o .1) (q .falls u))

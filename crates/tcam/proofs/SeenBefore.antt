@@ -5,9 +5,11 @@ use mathlib.Core.Bool.{Bool, true, false, not, _&&_, _||_, or-false}
 use mathlib.Core.List.{List, [], _∷_}
 use lib.Dec.{ltb}
 use borrow.Author.Tests.{le-ltb}
+use Rattle.route.specs.Loops.{before}
 use Rattle.tcam.specs.Slots.{Cell, isFree, isUpper, lengthIn, keepsS1, misplaced, repeats, breaks}
-use Rattle.tcam.specs.Loops.{SeenBefore, SeenWith, SeenPast, misplacedBy}
+use Rattle.tcam.specs.Loops.{SeenBefore, SeenWith, SeenPast, PlacedAt, repeatsAt, misplacedBy}
 use Rattle.tcam.specs.declared.image.Seen.{Seen}
+use Rattle.route.proofs.Tests.{or-parts}
 use Rattle.tcam.proofs.Cells.{used-short}
 
 -- a free slot breaks a rule where an entry below the pool stands before it; a used one by S1, S2 or S3
@@ -61,9 +63,17 @@ module _ {W : ℕ} {bs : List Cell} {s : Seen} (b : SeenBefore W bs s) (c : Cell
   pub breaks-misplaced : misplacedBy W c s ≡ true → true ≡ breaks W c bs
   breaks-misplaced m = rw (← misplaced-is, m)
 
-  -- where it breaks none of them, S5 decides, which a free slot does not break
+  -- where it breaks none of them, S5 decides
   pub breaks-placed : misplacedBy W c s ≡ false → repeats c bs ≡ breaks W c bs
   breaks-placed m = rw (← misplaced-is, m)
 
-  pub breaks-free : misplacedBy W c s ≡ false → isFree c ≡ true → false ≡ breaks W c bs
-  breaks-free m f = rw (← breaks-placed m, f)
+module _ (c : Cell) (bs : List Cell) where
+  -- a free slot does not break S5, so that it breaks a rule only where it breaks one of S1 to S4
+  pub repeats-free : isFree c ≡ true → false ≡ repeats c bs
+  repeats-free f = rw f
+
+  pub breaks-free : (W : ℕ) → isFree c ≡ true → misplaced W c bs ≡ false → breaks W c bs ≡ false
+  breaks-free W f e = rw (e, f)
+
+pub unbroken-placed : (W : ℕ) (at : ℕ → Cell) (i : ℕ) → breaks W (at i) (before at i) ≡ false → PlacedAt W at i
+unbroken-placed W at i e = or-parts (misplaced W (at i) (before at i)) (repeatsAt at i) e .0

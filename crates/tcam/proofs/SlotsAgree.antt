@@ -4,14 +4,14 @@
 use Prim.Native.Nat.{ℕ, _+_, _≤_}
 use mathlib.Core.Path.{_≡_, refl, sym, _∙_, ap}
 use mathlib.Core.Logic.{Iff·symm}
-use mathlib.Core.Bool.{true, false, cond, not}
+use mathlib.Core.Bool.{Bool, true, false, cond}
 use mathlib.Core.List.{List, [], _∷_, List·Memᴰ·not-nil}
 use native.Mathlib.Omega.{arith}
 use Rattle.route.specs.Rule.{Route, matches, Match, nothing, best, longest, hopOf, answer}
 use Rattle.route.specs.Refusals.{fine, faultIf, value, imageRefusal}
 use Rattle.route.specs.RightHop.{_∈_}
 use Rattle.route.specs.Lists.{any}
-use Rattle.tcam.specs.Slots.{Cell, lengthIn, isFree, cells, keepsS1, longerThanNearest, samePrefixIn, misplaced, repeats, breaks, imageFault, slotFault, firstMatch, slotLookup}
+use Rattle.tcam.specs.Slots.{Cell, lengthIn, isFree, cells, keepsS1, longerThanNearest, samePrefixIn, misplaced, repeats, breaks, firstFault, imageFault, slotFault, firstMatch, slotLookup}
 use Rattle.tcam.specs.Tables.{routeOf, routesIn, TableOf}
 use Rattle.route.proofs.Tests.{orders, byTest, or-parts, inTurn, passed}
 use Rattle.route.proofs.RouteSet.{RouteSet}
@@ -79,7 +79,7 @@ orderedAnswer W rs cs q ok same o =
     first .hop ∙ sym (agree W rs (routesIn cs) q ok same (longest W rs q) (first .found) (finds W rs q) (first .isFound))
 
 -- S1, S2 and S5 of the first slot of an image without a fault, and the others
-pub slot : (W i : ℕ) (before : List Cell) (c : Cell) (cs : List Cell) → imageFault W i before (c ∷ cs) ≡ fine →
+slot : (W i : ℕ) (before : List Cell) (c : Cell) (cs : List Cell) → imageFault W i before (c ∷ cs) ≡ fine →
     (keepsS1 W c ≡ true) × (isFree c ≡ false → longerThanNearest c before ≡ false) × (isFree c ≡ false → any (samePrefixIn c) before ≡ false)
     × (imageFault W (i + 1) (c ∷ before) cs ≡ fine)
 slot W i before c cs e =
@@ -88,17 +88,25 @@ slot W i before c cs e =
     let q = placed W c before (parts .0) in
     (q .keeps, q .falls, (λ u. rw u at (parts .1)), t .1)
 
-pub imageOrdered : (W i : ℕ) (before cs : List Cell) → imageFault W i before cs ≡ fine → Ordered before cs
+imageOrdered : (W i : ℕ) (before cs : List Cell) → imageFault W i before cs ≡ fine → Ordered before cs
 imageOrdered W i before [] e = tt
 imageOrdered W i before (c ∷ cs) e =
     let h = slot W i before c cs e in
     (h .1, imageOrdered W (i + 1) (c ∷ before) cs (h .3))
 
+-- where no slot fails a test that asks for S1, each keeps it
+keepsS1By : (W : ℕ) (fails : Cell → List Cell → Bool) → ((c : Cell) (before : List Cell) → fails c before ≡ false → keepsS1 W c ≡ true) →
+    (i j : ℕ) (before cs : List Cell) → firstFault fails i before cs ≡ fine → slotFault W j cs ≡ fine
+keepsS1By W fails h i j before [] e = refl
+keepsS1By W fails h i j before (c ∷ cs) e =
+    let t = inTurn (faultIf (fails c before) imageRefusal i) _ e in
+    rw (h c before (passed _ imageRefusal i (t .0))) (keepsS1By W fails h (i + 1) (j + 1) (c ∷ before) cs (t .1))
+
+pub orderKeepsS1 : (W i j : ℕ) (before cs : List Cell) → firstFault (misplaced W) i before cs ≡ fine → slotFault W j cs ≡ fine
+orderKeepsS1 W = keepsS1By W (misplaced W) (λ c before e. placed W c before e .keeps)
+
 pub imageKeepsS1 : (W i j : ℕ) (before cs : List Cell) → imageFault W i before cs ≡ fine → slotFault W j cs ≡ fine
-imageKeepsS1 W i j before [] e = refl
-imageKeepsS1 W i j before (c ∷ cs) e =
-    let h = slot W i before c cs e in
-    rw (h .0) (imageKeepsS1 W (i + 1) (j + 1) (c ∷ before) cs (h .3))
+imageKeepsS1 W = keepsS1By W (breaks W) (λ c before e. placed W c before (or-parts (misplaced W c before) (repeats c before) e .0) .keeps)
 
 pub slotsAgree : (W : ℕ) (rs : List Route) (q : ℕ) → RouteSet W rs → (ad ts : List ℕ) → TableOf W rs ad ts →
     slotLookup W ad ts q ≡ value (answer W rs q)

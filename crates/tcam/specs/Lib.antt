@@ -5,8 +5,9 @@ pub mod Tables
 pub mod Plans
 pub mod Applies
 pub mod Book
--- S5 by runs of one length.
+-- S5 by runs of one length, and mending a half-written table.
 pub mod Runs
+pub mod Mend
 -- The prefixes of a table read out one by one.
 pub mod Download
 -- What the code's types show, and what only loops need.

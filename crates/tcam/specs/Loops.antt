@@ -6,15 +6,23 @@ use mathlib.Core.List.{List, [], _∷_}
 use mathlib.Core.Option.{Option, none, some}
 use lib.Dec.{ltb, leb, eqb}
 use lib.ListN.{length, getD}
-use Rattle.route.specs.Refusals.{fine}
+use Rattle.route.specs.Refusals.{Verdict, fine, fault, faultIf, _then_, imageRefusal}
+use Rattle.route.specs.Shown.{number, place}
 use Rattle.route.specs.PrefixOrder.{keyOf}
 use Rattle.route.specs.Lists.{any}
 use Rattle.route.specs.Loops.{before, placesFrom}
-use Rattle.tcam.specs.Slots.{Cell, cell, cells, maxSlots, slotFault, isFree, isUpper, isLower, lengthIn, keepsS1, longerThanNearest}
-use Rattle.tcam.specs.Plans.{Write, write, firstSlot, lastSlot, ofLength, rising, falling, isSome, chain}
+use Rattle.tcam.specs.Slots.{Cell, cell, cells, maxSlots, slotFault, isFree, isUpper, isLower, lengthIn, keepsS1, longerThanNearest, misplaced, repeats}
+use Rattle.tcam.specs.Plans.{Write, write, firstSlot, lastSlot, ofLength, rising, falling, isSome, orElse, chain}
 use Rattle.tcam.specs.Runs.{runOf, InOrder}
+use Rattle.tcam.specs.Mend.{orderFault, contradicts, repeatFault, repeatSlot}
 use Rattle.tcam.specs.Download.{From, isToCome, nextIn, Next, entryOrEnd, nextUnless}
+use Rattle.tcam.specs.Shown.{placeOf}
 use Rattle.tcam.specs.declared.image.Seen.{Seen}
+use Rattle.tcam.specs.declared.mend.Repeat.{Repeat}
+use Rattle.tcam.specs.declared.mend.Repeat.the-variants.{Found, Refused}
+use Rattle.tcam.specs.declared.mend.Repeats.{Repeats}
+use Rattle.tcam.specs.declared.plan.Place.the-variants.{Nowhere, At}
+use Rattle.route.specs.declared.Refusal.the-variants.{Image}
 use Rattle.tcam.specs.declared.plan.Lengths.{Lengths}
 
 -- slot i of two rows
@@ -39,6 +47,13 @@ pub record SeenBefore (W : ℕ) (before : List Cell) (seen : Seen) : Type 0 wher
   pub nearest : (c : Cell) → keepsS1 W c ≡ true → isFree c ≡ false → longerThanNearest c before ≡ ltb (seen .nearest .0) (lengthIn c)
   pub free : any isFree before ≡ seen .free
   pub lower : any (isLower W) before ≡ seen .lower
+
+-- what it keeps before slot 0
+pub record SeenNone (W : ℕ) (seen : Seen) : Type 0 where
+  pub nearest : seen .nearest .0 ≡ W
+  pub free : seen .free ≡ false
+  pub lower : seen .lower ≡ false
+  pub run : seen .run .0 ≡ 0
 
 -- the same with an entry more, in slot i: its run goes on where it has the nearest length, and else begins with it
 pub record SeenWith (W : ℕ) (c : Cell) (i : ℕ) (seen next : Seen) : Type 0 where
@@ -65,6 +80,13 @@ pub record TestedBefore (W : ℕ) (at : ℕ → Cell) (s : Seen) (i : ℕ) : Typ
   pub seen : SeenBefore W (before at i) s
   pub run : RunBefore at (s .run .0) (s .nearest .0) i
 
+-- slot i keeps S1 to S4; whether it repeats an earlier prefix
+abbrev pub PlacedAt : ℕ → (ℕ → Cell) → ℕ → Type 0
+PlacedAt W at i = misplaced W (at i) (before at i) ≡ false
+
+abbrev pub repeatsAt : (ℕ → Cell) → ℕ → Bool
+repeatsAt at i = repeats (at i) (before at i)
+
 -- whether a slot breaks one of S1 to S4
 abbrev pub misplacedBy : ℕ → Cell → Seen → Bool
 misplacedBy W c seen =
@@ -76,11 +98,15 @@ misplacedBy W c seen =
 abbrev pub isUsed : Cell → Bool
 isUsed c = not (isFree c)
 
--- the slots from slot `from` up to slot r are free, and slot r is used or the rows end there
-pub record FreeEnd (ad ts : List ℕ) (from r : ℕ) : Type 0 where
+-- the slots from slot `from` up to slot r are free
+pub record FreeBetween (ad ts : List ℕ) (from r : ℕ) : Type 0 where
   pub behind : from ≤ r
   pub within : r ≤ length ad
   pub free : any isUsed (placesFrom (cellAt ad ts) from (r - from)) ≡ false
+
+-- and slot r is used or the rows end there
+pub record FreeEnd (ad ts : List ℕ) (from r : ℕ) : Type 0 where
+  pub between : FreeBetween ad ts from r
   pub used : r < length ad → isFree (cellAt ad ts r) ≡ false
 
 -- the four cases of an update are two: the first slots of rising lengths, or the last slots of falling ones
@@ -169,3 +195,35 @@ pub record IsAheadOf (least key r : ℕ) : Type 0 where
 -- the next entry of an image, or its refusal 7, where the prefixes still to come are known by their keys
 pub record NextByKeys (W : ℕ) (cs : List Cell) (least : ℕ) (r : Next) : Type 0 where
   pub is : (from : From) → IsLeast from least → r ≡ nextUnless (slotFault W 0 cs) (entryOrEnd (nextIn from cs))
+
+-- where a slot was found, it is in the table and used
+abbrev pub EntryAt : List ℕ → List ℕ → Option ℕ → Type 0
+EntryAt ad ts none = Unit {0}
+EntryAt ad ts (some s) = (s < length ad) × (isFree (cellAt ad ts s) ≡ false)
+
+-- a refusal, or the slot that was sought
+abbrev pub IsRepeat : Repeat → Verdict → Option ℕ → Type 0
+IsRepeat (Refused f) v o = fault (number f) (place f) ≡ v
+IsRepeat (Found p) v o = (fine ≡ v) × (placeOf p ≡ o)
+
+-- what a pass keeps of repeats, as a refusal or the slot that was sought
+abbrev pub repeatOf : Repeats → Repeat
+repeatOf r = cond (r .refused) (Refused (Image (r .first .0))) (Found (cond (r .found) (At (r .later)) Nowhere))
+
+-- the slot that repeats a prefix, where slot i does and none before it
+abbrev pub sinceAt : Option ℕ → Bool → ℕ → Option ℕ
+sinceAt o r i = orElse o (cond r (some i) none)
+
+-- what slot i comes to, where the slots before it repeat a prefix at the slot o: refusal 7, or the slot of the later copy up to slot i
+abbrev pub RepeatAt : (ℕ → Cell) → Option ℕ → ℕ → Repeat → Type 0
+RepeatAt at o i r =
+    IsRepeat r (faultIf (contradicts (at i) (before at i) || (isSome o && repeatsAt at i)) imageRefusal i) (sinceAt o (repeatsAt at i) i)
+
+-- and where one of them may be refused already
+abbrev pub RepeatWith : (ℕ → Cell) → Repeat → ℕ → Repeat → Type 0
+RepeatWith at (Refused f) i r = r ≡ Refused f
+RepeatWith at (Found p) i r = RepeatAt at (placeOf p) i r
+
+-- what a mend finds of all slots: refusal 7, of S1 to S4 first, or the slot of the later copy
+abbrev pub MendFound : ℕ → List Cell → Repeat → Type 0
+MendFound W cs r = IsRepeat r (orderFault W 0 [] cs then repeatFault 0 false [] cs) (repeatSlot 0 [] cs)

@@ -15,9 +15,9 @@ ghost use lib.ListN.{length};
 ghost use Rattle.route.specs.Lists.{any};
 ghost use Rattle.route.specs.Loops.{before, placesFrom};
 ghost use Rattle.route.specs.Shown.{verdictOf, counted};
-ghost use Rattle.tcam.specs.Slots.{maxSlots, cells, repeats, breaks, imageFault, tableFault, usedIn, slotCheck};
+ghost use Rattle.tcam.specs.Slots.{maxSlots, cells, breaks, imageFault, tableFault, usedIn, slotCheck};
 ghost use Rattle.tcam.specs.Shown.{cellOf};
-ghost use Rattle.tcam.specs.Loops.{cellAt, addressAt, isAddress, isUsed, misplacedBy, SeenWith, SeenPast, TestedBefore, FreeEnd};
+ghost use Rattle.tcam.specs.Loops.{cellAt, addressAt, isAddress, isUsed, misplacedBy, SeenNone, SeenWith, SeenPast, TestedBefore, PlacedAt, repeatsAt, FreeBetween, FreeEnd};
 use crate::MAX_SLOTS;
 use crate::slots::Cell;
 use crate::slots::cell_at;
@@ -44,6 +44,18 @@ pub struct Seen {
 }
 
 impl Seen {
+    // Before slot 0: no length is over 32.
+    pub(crate) fn none() -> Seen
+        ensures { λ r. ⌜ SeenNone 32 r ⌝ }
+    {
+        Seen {
+            nearest: Length(32),
+            free: false,
+            lower: false,
+            run: Slot(0),
+        }
+    }
+
     // Where the run of length n begins that an entry in slot i is in: it goes on where n is the nearest
     // length, and else begins with the entry.
     fn run_with(self, n: Length, i: Slot) -> Slot
@@ -83,7 +95,7 @@ impl Seen {
     }
 
     // Whether a slot after these breaks one of S1 to S4.
-    fn refuses(self, c: Cell) -> bool
+    pub(crate) fn refuses(self, c: Cell) -> bool
         ensures { λ r. ⌜ r ≡ misplacedBy 32 (cellOf c) self ⌝ }
     {
         if c.is_free() {
@@ -129,18 +141,21 @@ fn stands_between(addresses: &[u32], from: Slot, to: Slot, address: u32) -> bool
     false
 }
 
-// Whether slot i breaks one of S1 to S5. Where its prefix was not noted, no slot before it holds that;
-// where it has another length than the nearest entry, its run is empty.
-fn breaks_rule(addresses: &[u32], tags: &[u32], seen: Seen, noted: bool, i: Slot) -> bool
-    requires { ⌜ (length (now addresses) ≡ length (now tags)) × (i .0 < length (now addresses)) ⌝ }
-    requires { ⌜ TestedBefore 32 (cellAt (now addresses) (now tags)) seen (i .0) ⌝ }
-    requires { ⌜ (noted ≡ false → repeats (cellAt (now addresses) (now tags) (i .0)) (before (cellAt (now addresses) (now tags)) (i .0)) ≡ false) ⌝ }
-    ensures { λ r. ⌜ r ≡ breaks 32 (cellAt (now (addresses .entry)) (now (tags .entry)) (i .0)) (before (cellAt (now (addresses .entry)) (now (tags .entry))) (i .0)) ⌝ }
+// Whether slot i, which holds c and keeps S1 to S4, repeats an earlier prefix. Where its prefix was not noted, no
+// slot before it holds that; where it has another length than the nearest entry, its run is empty.
+pub(crate) fn repeats_earlier(
+    addresses: &[u32],
+    tags: &[u32],
+    seen: Seen,
+    noted: bool,
+    c: Cell,
+    i: Slot,
+) -> bool
+    requires { ⌜ (length (now addresses) ≡ length (now tags)) × (i .0 < length (now addresses)) × (cellOf c ≡ cellAt (now addresses) (now tags) (i .0)) ⌝ }
+    requires { ⌜ TestedBefore 32 (cellAt (now addresses) (now tags)) seen (i .0) × PlacedAt 32 (cellAt (now addresses) (now tags)) (i .0) ⌝ }
+    requires { ⌜ (noted ≡ false → repeatsAt (cellAt (now addresses) (now tags)) (i .0) ≡ false) ⌝ }
+    ensures { λ r. ⌜ r ≡ repeatsAt (cellAt (now (addresses .entry)) (now (tags .entry))) (i .0) ⌝ }
 {
-    let c = cell_at(addresses, tags, i);
-    if seen.refuses(c) {
-        return true;
-    }
     if c.is_free() {
         return false;
     }
@@ -153,6 +168,19 @@ fn breaks_rule(addresses: &[u32], tags: &[u32], seen: Seen, noted: bool, i: Slot
         return false;
     }
     stands_between(addresses, seen.run, i, c.address)
+}
+
+// Whether slot i, which holds c, breaks one of S1 to S5.
+fn breaks_rule(addresses: &[u32], tags: &[u32], seen: Seen, noted: bool, c: Cell, i: Slot) -> bool
+    requires { ⌜ (length (now addresses) ≡ length (now tags)) × (i .0 < length (now addresses)) × (cellOf c ≡ cellAt (now addresses) (now tags) (i .0)) ⌝ }
+    requires { ⌜ TestedBefore 32 (cellAt (now addresses) (now tags)) seen (i .0) ⌝ }
+    requires { ⌜ (noted ≡ false → repeatsAt (cellAt (now addresses) (now tags)) (i .0) ≡ false) ⌝ }
+    ensures { λ r. ⌜ r ≡ breaks 32 (cellAt (now (addresses .entry)) (now (tags .entry)) (i .0)) (before (cellAt (now (addresses .entry)) (now (tags .entry))) (i .0)) ⌝ }
+{
+    if seen.refuses(c) {
+        return true;
+    }
+    repeats_earlier(addresses, tags, seen, noted, c, i)
 }
 
 // Whether a slot from slot `from` up to slot `to` is used, as `stands_among` does it.
@@ -202,32 +230,49 @@ fn free_end(addresses: &[u32], tags: &[u32], from: Slot) -> Slot
     Slot(j)
 }
 
+// What was seen of the slots before a slot, and that slot.
+pub struct Passed {
+    pub seen: Seen,
+    pub next: Slot,
+}
+
+// Past slot i, which holds c and keeps S1 to S4: an entry, or a free slot with those that follow it.
+pub(crate) fn pass(addresses: &[u32], tags: &[u32], seen: Seen, c: Cell, i: Slot) -> Passed
+    requires { ⌜ (length (now addresses) ≡ length (now tags)) × (i .0 < length (now addresses)) × (cellOf c ≡ cellAt (now addresses) (now tags) (i .0)) ⌝ }
+    requires { ⌜ TestedBefore 32 (cellAt (now addresses) (now tags)) seen (i .0) × PlacedAt 32 (cellAt (now addresses) (now tags)) (i .0) ⌝ }
+    ensures { λ r. ⌜ TestedBefore 32 (cellAt (now (addresses .entry)) (now (tags .entry))) (r .seen) (r .next .0) × FreeBetween (now (addresses .entry)) (now (tags .entry)) (i .0 + 1) (r .next .0) ⌝ }
+{
+    let after = Slot(i.0 + 1);
+    if c.is_free() {
+        let next = free_end(addresses, tags, after);
+        return Passed {
+            seen: seen.past(next),
+            next,
+        };
+    }
+    Passed {
+        seen: seen.with(c, i),
+        next: after,
+    }
+}
+
 // Refusal 7 of an update.
 fn image_check(addresses: &[u32], tags: &[u32], filter: &mut [u64]) -> Check
     requires { ⌜ (length (now addresses) ≡ length (now tags)) × (0 < length (now filter)) ⌝ }
     ensures { λ r. ⌜ verdictOf r ≡ imageFault 32 0 [] (cells (now (addresses .entry)) (now (tags .entry))) ⌝ }
 {
-    let mut seen = Seen {
-        nearest: Length(32),
-        free: false,
-        lower: false,
-        run: Slot(0),
-    };
+    let mut seen = Seen::none();
     let mut i = 0;
     while i < addresses.len() {
         let c = cell_at(addresses, tags, Slot(i));
         let noted = filter::note(filter, c.address, c.length());
-        if breaks_rule(addresses, tags, seen, noted, Slot(i)) {
+        if breaks_rule(addresses, tags, seen, noted, c, Slot(i)) {
             return Check::Fault(Refusal::Image(i));
         }
-        if c.is_free() {
-            let next = free_end(addresses, tags, Slot(i + 1));
-            seen = seen.past(next);
-            i = next.0;
-        } else {
-            seen = seen.with(c, Slot(i));
-            i += 1;
-        }
+        let passed = pass(addresses, tags, seen, c, Slot(i));
+        seen = passed.seen;
+        let next = passed.next;
+        i = next.0;
     }
     Check::Fine
 }

@@ -3,11 +3,12 @@
 // A table is two lent rows of equal length, addresses and tags; a free slot is 0 in both. The rules
 // S1 to S5 and what each call answers are in specs/. A lookup asks for S1 alone, and so does a
 // download, so they are right on every image between two writes of a plan; an update tests the whole
-// image first.
+// image first, and refuses such an image until it is mended.
 pub mod apply;
 pub mod download;
 pub mod image;
 pub mod lookup;
+pub mod mend;
 pub mod plan;
 pub mod slots;
 

@@ -323,7 +323,13 @@ fn replace(tags: &[u32], s: Slot, c: Cell, plan: &mut [u32]) -> Planned
 }
 
 // The plan that removes the entry of slot s, whose length is n: the gap goes to the pool.
-fn erase(addresses: &[u32], tags: &[u32], n: Length, s: Slot, plan: &mut [u32]) -> Planned
+pub(crate) fn erase(
+    addresses: &[u32],
+    tags: &[u32],
+    n: Length,
+    s: Slot,
+    plan: &mut [u32],
+) -> Planned
     requires { ⌜ TableRows 32 (now addresses) (now tags) × (n .0 ≤ 32) × (s .0 < length (now addresses)) ⌝ }
     ensures { λ r. ⌜ IsPlanned (withRoom (length (now (plan .entry))) fine (removePresent 32 (cells (now (addresses .entry)) (now (tags .entry))) (n .0) (s .0))) (now (plan .entry)) (counted r) (now (plan .exit)) ⌝ }
 {

@@ -6,6 +6,7 @@ ghost use lib.ListN.{length};
 ghost use Rattle.route.specs.Shown.{verdictOf};
 ghost use Rattle.tcam.specs.Slots.{isFree, lengthIn, hopIn, keepsS1, isUpper, isLower, hits, slotsFault};
 ghost use Rattle.tcam.specs.Plans.{ofPrefix};
+ghost use Rattle.tcam.specs.Mend.{otherTagIn};
 ghost use Rattle.tcam.specs.Shown.{cellOf};
 ghost use Rattle.tcam.specs.Loops.{cellAt, groupOf};
 use crate::MAX_SLOTS;
@@ -105,6 +106,15 @@ impl Cell {
     {
         let m = self.length();
         !self.is_free() & (m.0 == n.0) & (self.address == address)
+    }
+
+    // Whether the slot holds the prefix of c with another tag.
+    pub fn has_other_tag(self, c: Cell) -> bool
+        ensures { λ r. ⌜ r ≡ otherTagIn (cellOf c) (cellOf self) ⌝ }
+    {
+        let m = self.length();
+        let n = c.length();
+        !self.is_free() & (self.address == c.address) & (m.0 == n.0) & (self.tag != c.tag)
     }
 
     pub fn group(self) -> Group
