@@ -1,26 +1,28 @@
 -- What a planned set or removal answers and leads to: a refusal, or an accepted plan.
 use Prim.Native.Nat.{ℕ, _*_, _≤_}
-use mathlib.Core.Path.{_≡_, refl, ap, _∙_}
+use mathlib.Core.Path.{_≡_, refl, sym, ap, subst, _∙_}
 use mathlib.Core.Bool.{Bool, true, false, cond}
 use mathlib.Core.List.{List}
 use native.Mathlib.Nat.{le-refl, le-of-lt}
 use lib.Dec.{ltb}
 use lib.ListN.{length, take}
 use lib.Seq.{take-length}
-use Rattle.route.specs.Rule.{Route}
+use Rattle.route.specs.Rule.{Route, answer}
 use Rattle.route.specs.Refusals.{fine, value, refused, roomRefusal}
-use Rattle.tcam.specs.Slots.{maxSlots, Cell}
+use Rattle.tcam.specs.Slots.{maxSlots, Cell, firstMatch}
 use Rattle.tcam.specs.Plans.{Write, Planned, refuses, writes, planAnswer, withRoom, rowAfter}
 use Rattle.tcam.specs.Applies.{written}
 use Rattle.tcam.specs.Book.{Book, BookAnswer, bookImage, settled}
 use Rattle.tcam.specs.Tables.{addresses, tags, routesIn, TableOf}
+use Rattle.claims.specs.Mending.{Mendable}
 use Rattle.claims.specs.Sequence.{Table, Plan, Request, Sound, AcceptedPlan, Held, refusedTable, plannedTable, after, lookedUp}
-use Rattle.tcam.proofs.Whole.{Makeable, faultless-first}
+use Rattle.tcam.proofs.Whole.{Makeable}
 use Rattle.claims.proofs.Image.{BookOk}
-use Rattle.claims.proofs.Form.{well-formed, image-length, image-keeps}
+use Rattle.claims.proofs.Form.{well-formed, image-length}
 use Rattle.claims.proofs.Members.{Same, same-members}
-use Rattle.claims.proofs.Apply.{cells-back, no-size-fault, answers-k, after-is, looked-up, length-written, keeps-written}
-use Rattle.claims.proofs.Set.{set-right}
+use Rattle.claims.proofs.Apply.{cells-back, no-size-fault, answers-k, after-is, looked-up, length-written}
+use Rattle.claims.proofs.Half.{Half, half-ordered, half-right, half-answers, half-book}
+use Rattle.claims.proofs.Mends.{mendable}
 use Rattle.claims.proofs.Cuts.{Leads}
 
 -- the table is the image of a book that keeps its rows, and holds its set
@@ -84,17 +86,27 @@ module _ (W M : ℕ) (i : 1 ≤ M) (j : M ≤ maxSlots) (b : Book) (ok : BookOk 
       same = l .same;
     }
 
+    -- the table after k writes
+    abbrev cut : ℕ → List Cell
+    cut k = written (bookImage W M b) (take k ws)
+
+    answers : (cs : List Cell) (q : ℕ) (t : Bool) → Half W (cond t rs nextRoutes) cs
+        → firstMatch W cs q ≡ cond t (answer W rs q) (answer W nextRoutes q)
+    answers cs q true h = half-answers cs h q
+    answers cs q false h = half-answers cs h q
+
     pub acceptedPlan : (most : ℕ) → length ws ≤ most → AcceptedPlan W most plan (tableOf W M b rs) nextTable
     acceptedPlan most m = record {
       bounded = m;
-      rightBefore = set-right W M b ok rs same;
-      rightAfter = set-right W M next (l .ok) nextRoutes (l .same);
+      rightBefore = half-right (half-book W M b ok rs (same-members same));
+      rightAfter = half-right (half-book W M next (l .ok) nextRoutes (same-members (l .same)));
       cuts = λ k n. record {
         answers = answers-k W (bookImage W M b) low high ws cs-good row k n;
         looksUp = λ q. ap (λ (cs : List Cell). lookedUp W cs q) (after-is W (bookImage W M b) low high ws cs-good row k n)
-            ∙ looked-up W (written (bookImage W M b) (take k ws)) (rw length-written low) (rw length-written high)
-            (keeps-written W M 0 (bookImage W M b) (take k ws) (image-keeps W M b ok) (faultless-first W M 0 k ws (l .good .faultless 0))) q
-            ∙ ap value (l .cuts k n q);
+            ∙ looked-up W (cut k) (rw length-written low) (rw length-written high) (half-ordered (l .halves k n) .keeps) q
+            ∙ ap value (answers (cut k) q (ltb k switch) (l .halves k n));
+        mends = subst (Mendable W (cond (ltb k switch) rs nextRoutes)) (sym (after-is W (bookImage W M b) low high ws cs-good row k n))
+            (mendable W _ (cut k) (rw length-written low) (rw length-written high) (l .halves k n));
       };
       unfinished = λ k m n.
           rw (after-is W (bookImage W M b) low high ws cs-good row k (le-of-lt n)) (l .unfinished k m n);

@@ -1,8 +1,9 @@
 -- Demand 3, by induction over the calls.
 --
 -- What the calls keep is `Holding`: the table is the image of its book, whose rows are in order, and holds its set. Each planned set or
--- removal leads from there to there (SetCall, RemoveCall), since its writes walk the open slot from the one image to the next (Side),
--- and no lookup can tell the cuts inside a walk from the table without its open slot (Walk). A refused call goes back to where it was.
+-- removal leads from there to there (SetCall, RemoveCall), since its writes walk the open slot from the one image to the next (Side). A
+-- cut inside a walk is the table without its open slot, with one cell in two slots (Doubled): half-written, so that it breaks S5, answers
+-- for the set that it holds and can be mended (Half, Mends). A refused call goes back to where it was.
 use Prim.Native.Nat.{ℕ, suc, zero, _+_, _-_, _/_, _≤_, zero-le}
 use mathlib.Core.Path.{_≡_, refl, sym, subst}
 use mathlib.Core.List.{List, [], _∷_, append-nil}
@@ -15,11 +16,12 @@ use Rattle.tcam.specs.Slots.{maxSlots, Cell, cells, free}
 use Rattle.tcam.specs.Plans.{Write, Planned, refuses, writes, falling}
 use Rattle.tcam.specs.Applies.{storedIf, writesIn, applyFault}
 use Rattle.tcam.specs.Tables.{addresses, tags, routesIn}
-use Rattle.tcam.specs.Book.{Book, bookImage, emptyBook, lengths, rows}
+use Rattle.tcam.specs.Book.{Book, bookImage, emptyBook, lengths}
 use Rattle.claims.specs.Sequence.{after, Call, set, remove, applyPlan, applyRefused, Table, State, idle, planned, Request, setRequest, removeRequest}
 use Rattle.claims.specs.Sequence.{tableIn, afterPlan, afterApply, stateAfter, CallClaim, Claim, emptyTable, Demand3}
 use Rattle.claims.proofs.Apply.{cells-back}
 use Rattle.claims.proofs.Members.{Same}
+use Rattle.claims.proofs.Rows.{no-rows}
 use Rattle.claims.proofs.Image.{BookOk}
 use Rattle.claims.proofs.Answer.{Holding, HoldsAfter, PlanHolds, tableOf, sound}
 use Rattle.claims.proofs.SetCall.{set-call}
@@ -90,10 +92,6 @@ module _ (W M : ℕ) (i : 1 ≤ M) (j : M ≤ maxSlots) where
   claim (c ∷ cs) s h = let k = call-claim c s h in (k .0, claim cs (stateAfter W M s c) (k .1))
 
 -- the empty table
-no-rows : (ls : List ℕ) → rows emptyBook ls ≡ []
-no-rows [] = refl
-no-rows (l ∷ ls) = no-rows ls
-
 pub empty-ok : (W M : ℕ) → BookOk W M emptyBook
 empty-ok W M = record {
   row = λ l. record { entries = tt; once = λ a. zero-le };

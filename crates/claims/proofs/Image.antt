@@ -75,7 +75,7 @@ module _ {W n : ℕ} (L : Lies W n) where
   abbrev pub laid : (outer own inner : List Cell) (p : ℕ) (far : List Cell) → List Cell
   laid outer own inner p far = join (L .side) outer (join (L .side) own (join (L .side) inner (join (L .side) (replicate p free) far)))
 
-  entries-parts : (b : Book) → length (entries W b) ≡ length (rows b (L .outer)) + length (b n) + length (rows b innerLengths) + length (rows b farLengths)
+  pub entries-parts : (b : Book) → length (entries W b) ≡ length (rows b (L .outer)) + length (b n) + length (rows b innerLengths) + length (rows b farLengths)
   entries-parts b = ap (λ (ls : List ℕ). length (rows b ls)) lengths-are ∙ simp (rows-join, append-nil, length-join) (omega arith)
 
   pub image-about : (M : ℕ) (b : Book) (p : ℕ) → length (entries W b) + p ≡ M

@@ -1,15 +1,14 @@
--- Demand 2 holds, and so do the board cases.
+-- Demand 2 holds, and so do the board cases and those of mending.
 pub mod Demand2
 pub mod Board
--- Demand 3, from the bottom up. First lists: how many members have a property, members, lists joined from either side.
+pub mod MendCases
+-- Demand 3, from the bottom up. First lists: how many members have a property, pairs, members, lists joined from either side.
 pub mod Times
+pub mod Pairs
 pub mod Members
 pub mod Join
--- slots sought, lookups, an entry in two slots, and the walk of the open slot
+-- slots sought
 pub mod Find
-pub mod Look
-pub mod Twice
-pub mod Walk
 -- the book: one row, a turned row, a row about an entry, rows of several lengths, where a length lies, the image
 pub mod Row
 pub mod Turn
@@ -17,20 +16,32 @@ pub mod Found
 pub mod Rows
 pub mod Lies
 pub mod Image
--- the plans are walks from the book's image to the next book's
+-- the walk of the open slot; the plans are walks from the book's image to the next book's
+pub mod Walk
 pub mod Hop
 pub mod Chain
 pub mod Update
 pub mod Prefix
 pub mod Side
 pub mod Updates
+-- plans applied; the set that slots hold; S2 to S4 as one order; prefixes that stand twice
+pub mod Apply
+pub mod Set
+pub mod Rank
+pub mod Repeats
 -- what holds of an image and of the set that it holds
 pub mod Form
 pub mod Next
 pub mod HasPrefix
-pub mod Set
--- plans applied, cut, answered; the claim
-pub mod Apply
+-- mending: an image in order is a book's; the second copy is walked to the pool; half-written images
+pub mod Picked
+pub mod BookOf
+pub mod MendWalk
+pub mod Doubled
+pub mod Half
+pub mod Mends
+pub mod Mending
+-- plans cut, answered; the claim
 pub mod Cuts
 pub mod Entry
 pub mod Answer

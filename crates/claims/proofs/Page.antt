@@ -10,8 +10,10 @@ use Rattle.claims.proofs.HasTable.{hasTable}
 use Rattle.claims.proofs.Demand3.{demand3}
 use Rattle.claims.proofs.Reapplied.{reapplied}
 use Rattle.claims.proofs.RunHolds.{runHolds}
+use Rattle.claims.proofs.Mending.{mends}
 use Rattle.claims.proofs.Download.{downloadClaim}
 use Rattle.claims.proofs.Board.{board}
+use Rattle.claims.proofs.MendCases.{mendCases}
 use Rattle.claims.proofs.DownloadCases.{downloadCases}
 use Rattle.claims.proofs.RecordForms.{recordForms}
 use Rattle.claims.proofs.ReportOfBook.{reportOfBook}
@@ -25,8 +27,10 @@ claims = record {
   demand3 = demand3;
   reapplied = reapplied;
   runHolds = runHolds;
+  mends = mends;
   download = downloadClaim;
   board = board;
+  mendCases = mendCases;
   downloadCases = downloadCases;
   records = recordForms;
   parts = wholeReport;

@@ -10,7 +10,7 @@ use lib.Dec.{ltb}
 use lib.ListN.{length, length-append}
 use Rattle.tcam.specs.Slots.{Cell}
 use Rattle.tcam.specs.Plans.{falling}
-use Rattle.tcam.specs.Book.{Book, rows}
+use Rattle.tcam.specs.Book.{Book, rows, emptyBook}
 use Rattle.tcam.specs.Loops.{lengthsFrom}
 use Rattle.claims.proofs.Times.{All, all-append, times, times-append}
 use Rattle.claims.proofs.Join.{join}
@@ -36,6 +36,10 @@ pub lengths-times : (t : ℕ → Bool) (up : Bool) (k l : ℕ) → times t (leng
 lengths-times t true zero l = refl
 lengths-times t true (suc k) l = omega (arith, lengths-times t true k (l + 1), ap (times t) (falling-inner k l) ∙ times-append t (falling k (l + 1)) (l ∷ []))
 lengths-times t false k l = refl
+
+pub no-rows : (ls : List ℕ) → rows emptyBook ls ≡ []
+no-rows [] = refl
+no-rows (l ∷ ls) = no-rows ls
 
 -- how many of the rows have entries
 abbrev pub filledRows : Book → List ℕ → ℕ

@@ -25,9 +25,17 @@ module _ {A : Type 0} where
   all-back P [] ys a = a
   all-back P (x ∷ xs) ys a = all-back P xs ys (a .1)
 
+  -- without one of them
+  pub all-less : (P : A → Type 0) (xs : List A) (y : A) (ys : List A) → All P (xs ++ (y ∷ ys)) → All P (xs ++ ys)
+  all-less P xs y ys h = all-append P xs ys (all-front P xs (y ∷ ys) h) (all-back P xs (y ∷ ys) h .1)
+
   pub all-map : (P Q : A → Type 0) → ((x : A) → P x → Q x) → (xs : List A) → All P xs → All Q xs
   all-map P Q f [] a = tt
   all-map P Q f (x ∷ xs) a = (f x (a .0), all-map P Q f xs (a .1))
+
+  pub every : (P : A → Type 0) → ((x : A) → P x) → (xs : List A) → All P xs
+  every P h [] = tt
+  every P h (x ∷ xs) = (h x, every P h xs)
 
   -- how many members pass a test
   abbrev pub times : (A → Bool) → List A → ℕ

@@ -7,8 +7,10 @@ use Rattle.claims.specs.Agreement.{Demand2, HasTable}
 use Rattle.claims.specs.Sequence.{Demand3}
 use Rattle.claims.specs.Reapplied.{Reapplied}
 use Rattle.claims.specs.RunHolds.{RunHolds}
+use Rattle.claims.specs.Mending.{Mends}
 use Rattle.claims.specs.Download.{DownloadClaim}
 use Rattle.claims.specs.Board.{got, expected}
+use Rattle.claims.specs.MendCases
 use Rattle.claims.specs.DownloadCases
 use Rattle.claims.specs.RecordForms.{RecordForms}
 use Rattle.claims.specs.ReportOfBook.{ReportOfBook}
@@ -25,8 +27,8 @@ pub record Claims : Type 0 where
   pub hasTable : (W : ℕ) → HasTable W
   -- From an empty table of 1 to 4,096 slots, over any sequence of planned sets, planned removals and applies, refused ones included: each
   -- answers as the book does, with its refusal or its number of writes; the table is the book's image; and every cut of every accepted
-  -- plan looks up right, for the set before and, from one named write on, for the set after. Between its first write and its last a plan
-  -- leaves a table that breaks a rule, so that updates refuse it.
+  -- plan looks up right, for the set before and, from one named write on, for the set after, and can be mended, to a table of that set.
+  -- Between its first write and its last a plan leaves a table that breaks a rule, so that updates refuse it.
   pub demand3 : (W : ℕ) → Demand3 W
   -- A plan can be applied write by write on one table, each time from its start: the first k writes leave what they leave of the table
   -- before the plan.
@@ -35,6 +37,11 @@ pub record Claims : Type 0 where
   -- run of its own length just before it. In that run its prefix stands exactly where its address does. So the image test by runs finds
   -- the same first broken slot on every image.
   pub runHolds : (W : ℕ) → RunHolds W
+  -- An image that a mend does not refuse with 8 or 7 is mended. The plan is bounded as a removal's is, by 18 writes where addresses have 32
+  -- bits. Every cut of it answers as the image did at the start, and its end is a well-formed table of what the slots held. A mend that is
+  -- cut short can itself be mended. A well-formed image needs no writes. Where S1 to S4 hold and exactly one prefix stands twice, with
+  -- equal tags, the plan is the removal of the later copy.
+  pub mends : (W : ℕ) → Mends W
   -- The download gives the prefixes of a table one to a call, in order of address, then length, while updates go on. Each call gives the
   -- least prefix ahead, with its first slot's tag. Over any images the list rises, a prefix present in every image of a finished walk is
   -- given exactly once, and one present in none never. With the calls of demand 3 and single writes of their plans between the calls,
@@ -43,6 +50,8 @@ pub record Claims : Type 0 where
   pub download : (W : ℕ) → DownloadClaim W
   -- The board cases a to j come out as they stand on the board.
   pub board : got ≡ expected
+  -- The cases of mending come out as expected.
+  pub mendCases : MendCases.got ≡ MendCases.expected
   -- The cases of the download come out as expected.
   pub downloadCases : DownloadCases.got ≡ DownloadCases.expected
   -- The reader of update records accepts exactly what a writer writes, and its places lie in the input.

@@ -2,9 +2,9 @@
 --
 -- A sequence is a list of calls: planned sets, planned removals, applies of an accepted plan, and applies that are refused. The claim is
 -- a type by recursion over that list. At each set or removal it says that the plan answers as the book does; that a refused one leaves
--- the table sound; and that an accepted one is bounded, is right at every cut, and breaks a rule at each between its first write and its
--- last. At each apply of a plan it says that the table is sound again: the image of the book, and a table of its set; at each refused
--- apply, that the table is as it was. The claim goes on after every call.
+-- the table sound; and that an accepted one is bounded, is right at every cut and can be mended there, and breaks a rule at each cut
+-- between its first write and its last. At each apply of a plan it says that the table is sound again: the image of the book, and a
+-- table of its set; at each refused apply, that the table is as it was. The claim goes on after every call.
 use Prim.Native.Nat.{ℕ, _≤_, _<_}
 use mathlib.Core.Path.{_≡_}
 use mathlib.Core.Logic.{_≢_}
@@ -13,14 +13,16 @@ use mathlib.Core.List.{List, [], _∷_}
 use lib.Dec.{ltb, eqb}
 use lib.ListN.{length, replicate}
 use Rattle.route.specs.Rule.{Route, route, answer}
-use Rattle.route.specs.Refusals.{fine, Answer, value}
+use Rattle.route.specs.Refusals.{fine, value}
 use Rattle.route.specs.RightHop.{Right}
 use Rattle.route.specs.Lists.{hasPrefix}
-use Rattle.tcam.specs.Slots.{maxSlots, Cell, cells, free, imageFault, slotLookup}
+use Rattle.tcam.specs.Slots.{maxSlots, Cell, free, imageFault}
 use Rattle.tcam.specs.Tables.{addresses, tags, TableOf}
 use Rattle.tcam.specs.Plans.{Write, Planned, refuses, writes, mostToSet, mostToRemove, planSet, planRemove, planAnswer, rowAfter}
-use Rattle.tcam.specs.Applies.{applyFault, applyAnswer, appliedAddresses, appliedTags}
+use Rattle.tcam.specs.Applies.{applyFault, applyAnswer}
 use Rattle.tcam.specs.Book.{Book, BookAnswer, emptyBook, bookImage, bookSet, bookRemove}
+use Rattle.claims.specs.Mending.{Mendable}
+pub use Rattle.claims.specs.Mending.{after, lookedUp}
 
 -- the calls of a sequence
 pub data Call : Type 0 where
@@ -60,20 +62,15 @@ pub record Sound (W M : ℕ) (t : Table) : Type 0 where
   pub sized : length (t .image) ≡ M
   pub isTable : TableOf W (t .routes) (addresses (t .image)) (tags (t .image))
 
--- the table after the first k writes of a row
-abbrev pub after : ℕ → List Cell → List ℕ → ℕ → List Cell
-after W cs row k = cells (appliedAddresses W (addresses cs) (tags cs) row k) (appliedTags W (addresses cs) (tags cs) row k)
-
-abbrev pub lookedUp : ℕ → List Cell → ℕ → Answer
-lookedUp W cs q = slotLookup W (addresses cs) (tags cs) q
-
--- the first k writes of the plan: the apply answers k, and a lookup answers for the set before, from the switch on for the set after
+-- the first k writes of the plan: the apply answers k, a lookup answers for the set before, from the switch on for the set after, and
+-- the half-written image is mended to a table of that set
 pub record Cut (W : ℕ) (p : Plan) (before next : Table) (k : ℕ) : Type 0 where
   pub answers : applyAnswer W (addresses (before .image)) (tags (before .image)) (p .row) k ≡ value k
   pub looksUp :
       (q : ℕ) →
       lookedUp W (after W (before .image) (p .row) k) q
       ≡ value (cond (ltb k (p .switch)) (answer W (before .routes) q) (answer W (next .routes) q))
+  pub mends : Mendable W (cond (ltb k (p .switch)) (before .routes) (next .routes)) (after W (before .image) (p .row) k)
 
 -- an accepted plan: bounded, right answers before and after, every cut, and a broken rule between its first write and its last
 pub record AcceptedPlan (W most : ℕ) (p : Plan) (before next : Table) : Type 0 where
