@@ -2,13 +2,14 @@
  * The board's set P from C. First the list: each answer on a line, then the outcome of a list with a repeated prefix.
  * Then the list as one row of prefixes: the outcome of its test, each answer on a line, case e, and the outcomes of
  * lists with a repeated prefix, a length too large, a hop of 0 and no entry. Then case f, sets in 8 slots: each plan's
- * outcome, and the image. Then case g, a removal: the plan's outcome, the answer for 10.20.4.10 after each number of
- * its writes, and the image. Then its download: the outcome of each call up to the end and of one past no prefix, with
- * the three numbers after it. Then case h, ranges: the outcome of a build with a cell of room too few, that of a build
- * with room for all, the ranges, and each answer on a line. Then cases i and j, the DXR table with and without the
- * /32: the outcome of the build, the main word of chunk 2580, its range words, which are all there are, and each
- * answer on a line. Then the report's records: the outcome of each call up to the end of the input, of one past it and
- * of one on cut bytes, with the four numbers after it.
+ * outcome, and the image. Then case g, a removal: the plan's outcome; after each number of its writes the answer for
+ * 10.20.4.10, the outcome of a mend with no room, that of one with room, and its writes; and the image. Then its
+ * download: the outcome of each call up to the end and of one past no prefix, with the three numbers after it. Then
+ * case h, ranges: the outcome of a build with a cell of room too few, that of a build with room for all, the ranges,
+ * and each answer on a line. Then cases i and j, the DXR table with and without the /32: the outcome of the build, the
+ * main word of chunk 2580, its range words, which are all there are, and each answer on a line. Then the report's
+ * records: the outcome of each call up to the end of the input, of one past it and of one on cut bytes, with the four
+ * numbers after it.
  */
 #include <inttypes.h>
 #include <stdio.h>
@@ -24,6 +25,7 @@
 static uint32_t slot_addresses[SLOTS];
 static uint32_t slot_tags[SLOTS];
 static uint32_t plan[3 * HAWKMORTAR_MAX_REMOVE_WRITES];
+static uint32_t mend[3 * HAWKMORTAR_MAX_REMOVE_WRITES];
 static uint32_t starts[RANGES];
 static uint32_t range_hops[HAWKMORTAR_MAX_RANGES];
 static uint32_t main_words[HAWKMORTAR_MAIN_WORDS];
@@ -68,6 +70,18 @@ static void show_image(void)
     show(hawkmortar_slot_check(slot_addresses, SLOTS, slot_tags, SLOTS));
     for (size_t slot = 0; slot < SLOTS; slot++)
         printf("%zu %08" PRIx32 " %08" PRIx32 "\n", slot, slot_addresses[slot], slot_tags[slot]);
+}
+
+static void show_mend(void)
+{
+    show(hawkmortar_plan_mend(slot_addresses, SLOTS, slot_tags, SLOTS, mend, 0));
+    struct hawkmortar_outcome planned =
+        hawkmortar_plan_mend(slot_addresses, SLOTS, slot_tags, SLOTS, mend, sizeof mend / sizeof mend[0]);
+    show(planned);
+    if (planned.refusal != 0)
+        return;
+    for (const uint32_t *write = mend; write < mend + 3 * planned.value; write += 3)
+        printf("%" PRIu32 " %08" PRIx32 " %08" PRIx32 "\n", write[0], write[1], write[2]);
 }
 
 static void show_entry(struct hawkmortar_outcome given, const uint32_t *entry)
@@ -187,6 +201,7 @@ int main(void)
     for (size_t k = 0; k <= writes; k++) {
         hawkmortar_apply(slot_addresses, SLOTS, slot_tags, SLOTS, plan, 3 * writes, k);
         show(hawkmortar_slot_lookup(slot_addresses, SLOTS, slot_tags, SLOTS, ip(10, 20, 4, 10)));
+        show_mend();
     }
     show_image();
     if (show_download() != 0)

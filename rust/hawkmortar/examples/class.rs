@@ -1,5 +1,6 @@
 //! The lesson of docs/CLASS.md: four beliefs about route tables and five errors, each with what the tables really do, a table that
-//! is read out while it is updated, and what the test of a table compares. `make class` prints it.
+//! is read out while it is updated, what the test of a table compares, and the mend of a table that an update left half-written.
+//! `make class` prints it.
 
 use hawkmortar::{dxr, list, slots, Download, DxrTable, Entry, NextHop, Plan, Prefix, RangeTable, Refusal, Table};
 use std::fmt::Write as _;
@@ -31,6 +32,14 @@ const RUNS: [Route; 10] = [
     ("0.0.0.0/0", 10),
 ];
 
+/// A set below the pool, with several prefixes of one length.
+const SHORT: [Route; 4] = [
+    ("10.16.0.0/12", 1),
+    ("10.0.0.0/8", 2),
+    ("11.0.0.0/8", 3),
+    ("12.0.0.0/8", 4),
+];
+
 fn main() -> Result<(), Refusal> {
     print!("{}", lesson()?);
     Ok(())
@@ -53,6 +62,11 @@ pub fn lesson() -> Result<String, Refusal> {
         download_while_updates_go_on,
         reader_by_slot,
         compared_with_a_run,
+        set_that_was_cut,
+        removal_that_was_cut,
+        either_copy_taken_out,
+        entry_written_on_itself,
+        images_that_are_not_mended,
     ];
     for part in parts {
         part(&mut page)?;
@@ -148,11 +162,7 @@ fn gap_is_filled_from_its_own_run(page: &mut String) -> Result<(), Refusal> {
     for (name, cells) in [("planned", plan.cells()), ("without the edge move", &without)] {
         let (mut addresses, mut tags) = (table.addresses().to_vec(), table.tags().to_vec());
         let writes = slots::apply(&mut addresses, &mut tags, cells, cells.len() / 3)?;
-        let image = match slots::check(&addresses, &tags) {
-            Ok(used) => format!("{used} slots used, every rule kept"),
-            Err(refusal) => refusal.to_string(),
-        };
-        line(page, &format!("{name}, {writes} writes: {image}"));
+        line(page, &format!("{name}, {writes} writes: {}", test(&addresses, &tags)));
     }
     Ok(())
 }
@@ -326,6 +336,224 @@ fn show_runs(page: &mut String, table: &Table) -> (usize, usize) {
     (with_runs, with_all)
 }
 
+/// 14. A set that was cut after two of its three writes, and its mend.
+fn set_that_was_cut(page: &mut String) -> Result<(), Refusal> {
+    line(page, "14. A set that was cut, and its mend");
+    let table = filled(12, &RUNS)?;
+    let plan = table.plan_set(prefix("10.20.4.11/32"), hop(11))?;
+    show_mend(
+        page,
+        &table,
+        "set 10.20.4.11/32 11",
+        &plan,
+        2,
+        &["10.20.1.7", "10.20.4.11"],
+    )
+}
+
+/// 15. A removal that was cut after its first write, and its mend.
+fn removal_that_was_cut(page: &mut String) -> Result<(), Refusal> {
+    line(page, "15. A removal that was cut, and its mend");
+    let table = filled(12, &RUNS)?;
+    let plan = table.plan_remove(prefix("10.20.2.0/24"))?;
+    show_mend(
+        page,
+        &table,
+        "remove 10.20.2.0/24",
+        &plan,
+        1,
+        &["10.20.2.7", "10.20.4.11"],
+    )
+}
+
+/// 16. Either copy taken out of the table of 14, and of one in which the copies have two hops.
+fn either_copy_taken_out(page: &mut String) -> Result<(), Refusal> {
+    line(page, "16. Either copy taken out");
+    let mut table = filled(12, &RUNS)?;
+    let set = table.plan_set(prefix("10.20.4.11/32"), hop(11))?;
+    table.apply(&set, 2)?;
+    let (addresses, mut tags) = (table.addresses().to_vec(), table.tags().to_vec());
+    let (q, mend) = ("10.20.1.7", table.plan_mend()?);
+    let later = take_out(page, "the later", (&addresses, &tags), mend.cells(), q)?;
+    let cells = removal(&addresses, &tags, 2);
+    let earlier = take_out(page, "the earlier", (&addresses, &tags), &cells, q)?;
+    let equal = if later == earlier { "equal" } else { "not equal" };
+    line(page, &format!("in the end the two tables are {equal}"));
+    line(page, "with hop 12 in slot 6");
+    tags[6] = 24 << 16 | 12;
+    for (name, slot) in [("the later", 6), ("the earlier", 2)] {
+        take_out(page, name, (&addresses, &tags), &removal(&addresses, &tags, slot), q)?;
+    }
+    Ok(())
+}
+
+/// 17. A mend below the pool, where the first entry of the run is the other copy; and one where it is another entry.
+fn entry_written_on_itself(page: &mut String) -> Result<(), Refusal> {
+    line(page, "17. A mend below the pool");
+    let mut table = filled(8, &SHORT)?;
+    let plan = table.plan_set(prefix("0.0.0.0/0"), hop(5))?;
+    show_mend(page, &table, "set 0.0.0.0/0 5", &plan, 2, &["10.0.0.1", "12.0.0.1"])?;
+    table.apply(&plan, 2)?;
+    let (mut addresses, mut tags) = (table.addresses().to_vec(), table.tags().to_vec());
+    let cells = removal(&addresses, &tags, 4);
+    take_out(page, "the earlier", (&addresses, &tags), &cells, "10.0.0.1")?;
+    line(page, "with 12.0.0.0/8 in slot 4 and 10.0.0.0/8 in slots 5 and 7");
+    addresses.swap(4, 5);
+    tags.swap(4, 5);
+    let table = Table::from_half_written(addresses, tags)?;
+    let (rows, mend) = ((table.addresses(), table.tags()), table.plan_mend()?);
+    take_out(page, "the later", rows, mend.cells(), "12.0.0.1")?;
+    take_out(page, "without the edge move", rows, &mend.cells()[3..], "12.0.0.1")?;
+    Ok(())
+}
+
+/// 18. Four images that no cut of an update leaves.
+fn images_that_are_not_mended(page: &mut String) -> Result<(), Refusal> {
+    type Cells = Vec<(u32, u32)>;
+    type Image = (&'static str, fn(&mut Cells));
+    line(page, "18. What is not mended");
+    let table = filled(12, &RUNS)?;
+    let images: [Image; 4] = [
+        ("10.20.1.0/24 in slots 2 and 5, with hops 3 and 12", |cells| {
+            cells[5] = (cells[2].0, 24 << 16 | 12)
+        }),
+        ("10.20.1.0/24 in slots 2, 3 and 4", |cells| {
+            (cells[3], cells[4]) = (cells[2], cells[2])
+        }),
+        (
+            "10.20.1.0/24 in slots 2 and 3, 10.20.3.0/24 in slots 4 and 5",
+            |cells| (cells[3], cells[5]) = (cells[2], cells[4]),
+        ),
+        (
+            "10.20.1.0/24 in slots 2 and 5, slot 7 free, 10.30.0.0/16 in slot 9",
+            |cells| {
+                cells[5] = cells[2];
+                cells.swap(7, 9)
+            },
+        ),
+    ];
+    for (name, edit) in images {
+        let mut cells: Cells = table
+            .addresses()
+            .iter()
+            .copied()
+            .zip(table.tags().iter().copied())
+            .collect();
+        edit(&mut cells);
+        let (addresses, tags): (Vec<u32>, Vec<u32>) = cells.into_iter().unzip();
+        let mend = slots::plan_mend(&addresses, &tags, &mut []).expect_err("no half-written table");
+        line(page, name);
+        line(page, &format!("  the next update: {}", test(&addresses, &tags)));
+        line(page, &format!("  mend: {mend}"));
+    }
+    Ok(())
+}
+
+/// An update that is cut after k writes, and its mend: the table before, as it was left, and after each write of the mend.
+fn show_mend(
+    page: &mut String,
+    table: &Table,
+    name: &str,
+    plan: &Plan,
+    k: usize,
+    asked: &[&str],
+) -> Result<(), Refusal> {
+    let (mut left, mut whole) = (table.clone(), table.clone());
+    left.apply(plan, k)?;
+    whole.apply(plan, plan.len())?;
+    line(
+        page,
+        &format!("{name} is {} writes; the card is pulled after {k}", plan.len()),
+    );
+    line(
+        page,
+        &format!("the next update: {}", test(left.addresses(), left.tags())),
+    );
+    let mut states = vec![
+        ("before".to_string(), table.clone()),
+        ("pulled".to_string(), left.clone()),
+    ];
+    let mend = left.plan_mend()?;
+    for k in 1..=mend.len() {
+        left.apply(&mend, k)?;
+        line(
+            page,
+            &format!("mend, write {k} of {}: {}", mend.len(), written(&mend, k)),
+        );
+        states.push((format!("mend, write {k}"), left.clone()));
+    }
+    side_by_side(page, &states, asked);
+    let set = match &left {
+        left if left == table => "the table before",
+        left if *left == whole => "the table after",
+        _ => "another table",
+    };
+    line(page, &format!("mended: {}, {set}", test(left.addresses(), left.tags())));
+    Ok(())
+}
+
+/// What the test of an image says.
+fn test(addresses: &[u32], tags: &[u32]) -> String {
+    match slots::check(addresses, tags) {
+        Ok(used) => format!("{used} slots used, every rule kept"),
+        Err(refusal) => refusal.to_string(),
+    }
+}
+
+/// States of a table, slot by slot, with the next hop of some addresses in each.
+fn side_by_side(page: &mut String, states: &[(String, Table)], asked: &[&str]) {
+    let mut row = |name: &str, cell: &dyn Fn(&(String, Table)) -> String| {
+        let cells: String = states.iter().map(|state| format!("  {:<13}", cell(state))).collect();
+        line(page, format!("{name:<10}{cells}").trim_end());
+    };
+    row("", &|(name, _)| name.clone());
+    for slot in 0..states[0].1.slots() {
+        row(&format!("slot {slot}"), &|(_, table)| in_slot(table, slot));
+    }
+    for q in asked {
+        row(q, &|(_, table)| {
+            format!("hop {}", hop_or_none(table.lookup(address(q))))
+        });
+    }
+}
+
+/// Writes that take a copy out, with the next hop of an address before them and after each; the rows in the end.
+fn take_out(
+    page: &mut String,
+    name: &str,
+    (addresses, tags): (&[u32], &[u32]),
+    cells: &[u32],
+    q: &str,
+) -> Result<(Vec<u32>, Vec<u32>), Refusal> {
+    let (mut addresses, mut tags) = (addresses.to_vec(), tags.to_vec());
+    let answer = found(q, slots::lookup(&addresses, &tags, address(q))?);
+    line(page, &format!("{name}, {} writes: {answer}", cells.len() / 3));
+    for write in cells.chunks(3) {
+        slots::apply(&mut addresses, &mut tags, write, 1)?;
+        let answer = found(q, slots::lookup(&addresses, &tags, address(q))?);
+        line(page, &format!("  {}: {answer}", shown_write(write)));
+    }
+    Ok((addresses, tags))
+}
+
+/// The removal rule of what a slot holds, on any image that keeps S1 to S4: each slot is written with what the next one held.
+fn removal(addresses: &[u32], tags: &[u32], slot: usize) -> Vec<u32> {
+    let length = tags[slot] >> 16;
+    let of_length = |n: u32| (0..tags.len()).filter(move |&slot| tags[slot] != 0 && tags[slot] >> 16 == n);
+    let edges: Vec<usize> = match length {
+        16.. => (16..=length).rev().filter_map(|n| of_length(n).next_back()).collect(),
+        _ => (length..16).filter_map(|n| of_length(n).next()).collect(),
+    };
+    let mut path = vec![slot];
+    path.extend(edges.into_iter().filter(|&edge| edge != slot));
+    let held = path[1..].iter().map(|&next| (addresses[next], tags[next]));
+    let written = held.chain([(0, 0)]);
+    path.iter()
+        .zip(written)
+        .flat_map(|(&slot, (address, tag))| [slot as u32, address, tag])
+        .collect()
+}
+
 /// The prefix in a slot.
 fn in_slot(table: &Table, slot: usize) -> String {
     let entry = table.iter().find(|entry: &Entry| entry.slot == slot);
@@ -400,10 +628,17 @@ fn line(page: &mut String, text: &str) {
 }
 
 fn written(plan: &Plan, k: usize) -> String {
-    let write = plan.writes().nth(k - 1).expect("a plan's own write");
-    match write.entry() {
-        Some(entry) => format!("{} to slot {}", entry.prefix, entry.slot),
-        None => format!("slot {} cleared", write.slot()),
+    shown_write(&plan.cells()[3 * (k - 1)..3 * k])
+}
+
+fn shown_write(write: &[u32]) -> String {
+    match *write {
+        [slot, _, 0] => format!("slot {slot} cleared"),
+        [slot, address, tag] => {
+            let prefix = Prefix::new(address, tag >> 16).expect("an entry of the lesson");
+            format!("{prefix} to slot {slot}")
+        }
+        _ => unreachable!("a write is three numbers"),
     }
 }
 

@@ -108,6 +108,15 @@ extern "C" {
         plan_len: usize,
     ) -> Outcome;
 
+    pub fn hawkmortar_plan_mend(
+        addresses: *const u32,
+        addresses_len: usize,
+        tags: *const u32,
+        tags_len: usize,
+        plan: *mut u32,
+        plan_len: usize,
+    ) -> Outcome;
+
     pub fn hawkmortar_apply(
         addresses: *mut u32,
         addresses_len: usize,

@@ -22,12 +22,12 @@
 //!
 //! [`prefixes`] has the calls of [`list`] over one slice of entries.
 //!
-//! A [`Table`] keeps routes in slots and plans each update as a row of single writes; a [`Download`] reads its routes out one by
-//! one while updates go on; [`slots`] has the same calls over lent rows. A [`RangeTable`] has the routes of a list merged into
-//! ranges of addresses; [`ranges`] has its calls over lent rows. A [`DxrTable`] has these ranges by chunks of addresses, so that a
-//! lookup looks at one chunk; [`dxr`] has its calls. Updates travel as bytes: [`Records`] reads them record by record, and
-//! [`records`] has the call that reads one. Prefixes, hops and records can be parsed from the text that they are shown as; the
-//! program `records` turns lines of such text into bytes and back.
+//! A [`Table`] keeps routes in slots and plans each update as a row of single writes; one that was left in the middle of a plan is
+//! mended ([`Table::mend`]). A [`Download`] reads its routes out one by one while updates go on; [`slots`] has the same calls over
+//! lent rows. A [`RangeTable`] has the routes of a list merged into ranges of addresses; [`ranges`] has its calls over lent rows. A
+//! [`DxrTable`] has these ranges by chunks of addresses, so that a lookup looks at one chunk; [`dxr`] has its calls. Updates travel
+//! as bytes: [`Records`] reads them record by record, and [`records`] has the call that reads one. Prefixes, hops and records can be
+//! parsed from the text that they are shown as; the program `records` turns lines of such text into bytes and back.
 #![warn(missing_docs)]
 
 pub mod download;
@@ -75,7 +75,7 @@ pub const MAX_RANGE_WORDS: usize = 12_288;
 /// The most writes of a plan that sets a prefix.
 pub const MAX_SET_WRITES: usize = 17;
 
-/// The most writes of a plan that removes a prefix.
+/// The most writes of a plan that removes a prefix, and of one that mends a table.
 pub const MAX_REMOVE_WRITES: usize = 18;
 
 /// A next hop: a number from 1 to 65,535.

@@ -7,8 +7,8 @@
 //!
 //! A plan is a row of writes, three numbers each: slot, address, tag. Each write changes one slot. After any number of a plan's
 //! writes lookups answer as before the update or as after it: a set of an absent prefix shows at its last write, every other
-//! plan at its first. An image with part of a plan applied keeps S1 but can hold one prefix twice; updates refuse it until the
-//! rest is applied.
+//! plan at its first. An image with part of a plan applied keeps S1 to S4 but can hold one prefix twice; updates refuse it until
+//! the rest is applied or the image is mended ([`plan_mend`]).
 //!
 //! Every call first refuses rows of unequal length, of no slots or of too many with [`Refusal::Size`]. A refused call changes
 //! nothing.
@@ -81,6 +81,29 @@ pub fn plan_remove(
             tags.len(),
             address.into(),
             length,
+            plan.as_mut_ptr(),
+            plan.len(),
+        )
+    }
+    .count()
+}
+
+/// Plans to mend an image that an update left half-written: the number of writes, which stand at the front of `plan`. Such an
+/// image keeps S1 to S4 and has exactly one prefix in two slots, with equal tags; the plan is the removal of the later copy, of 1
+/// to [`MAX_REMOVE_WRITES`](crate::MAX_REMOVE_WRITES) writes. There are none where the image is well-formed. After any number of
+/// its writes lookups answer as they did before the first, and a mend that was cut short can itself be mended.
+///
+/// Refusals, in this order: [`Refusal::Image`] with the first slot of the whole image that breaks one of S1 to S4, or else the
+/// first that repeats an earlier prefix with another tag or is the second slot to repeat any; [`Refusal::Room`] where `plan` is
+/// shorter than three times the writes.
+pub fn plan_mend(addresses: &[u32], tags: &[u32], plan: &mut [u32]) -> Result<usize, Refusal> {
+    // SAFETY: as of `plan_set`
+    unsafe {
+        ffi::hawkmortar_plan_mend(
+            addresses.as_ptr(),
+            addresses.len(),
+            tags.as_ptr(),
+            tags.len(),
             plan.as_mut_ptr(),
             plan.len(),
         )

@@ -3,7 +3,8 @@
 //! A [`Table`] owns the two rows that [`slots`] describes. An update is planned first: a [`Plan`] lists single [`Write`]s, in
 //! order. They can be made all at once or some at a time, and lookups in between answer as before the update or as after it,
 //! never otherwise. A table with part of a plan applied refuses further updates with [`Refusal::Image`] while a prefix stands
-//! in two slots; applying the whole plan ends that, since a write that is made again changes nothing.
+//! in two slots. Applying the whole plan ends that, since a write that is made again changes nothing; so does [`Table::mend`]
+//! where the plan is lost, and the table then holds the routes that lookups answered from.
 //!
 //! ```
 //! use hawkmortar::{NextHop, Prefix, Refusal, Table};
@@ -39,6 +40,16 @@
 //! assert_eq!(table.lookup(q), NextHop::new(2));
 //! table.apply(&plan, 2)?;
 //! assert_eq!(table.lookup(q), NextHop::new(2));
+//!
+//! // a plan that is dropped after its first write leaves the /16 in slots 1 and 2; updates are accepted once that is mended
+//! let prefix = Prefix::new(q, 32)?;
+//! let plan = table.plan_set(prefix, NextHop::new(4).unwrap())?;
+//! table.apply(&plan, 1)?;
+//! drop(plan);
+//! assert_eq!(table.lookup(q), NextHop::new(2));
+//! assert_eq!(table.set(prefix, NextHop::new(4).unwrap()), Err(Refusal::Image(2)));
+//! assert_eq!(table.mend(), Ok(1));
+//! assert_eq!(table.set(prefix, NextHop::new(4).unwrap()), Ok(2));
 //! # Ok::<(), Refusal>(())
 //! ```
 
@@ -71,6 +82,13 @@ impl Table {
     /// The table with these rows; refused as of [`slots::check`].
     pub fn from_rows(addresses: Vec<u32>, tags: Vec<u32>) -> Result<Self, Refusal> {
         slots::check(&addresses, &tags)?;
+        Ok(Table { addresses, tags })
+    }
+
+    /// The table with these rows, which an update may have left half-written: lookups are right from then on, and updates are
+    /// accepted after [`Table::mend`]. Refused as of [`slots::plan_mend`].
+    pub fn from_half_written(addresses: Vec<u32>, tags: Vec<u32>) -> Result<Self, Refusal> {
+        slots::plan_mend(&addresses, &tags, &mut [0; CELLS * MAX_REMOVE_WRITES])?;
         Ok(Table { addresses, tags })
     }
 
@@ -109,6 +127,16 @@ impl Table {
         Ok(Plan::of(&cells[..CELLS * writes]))
     }
 
+    /// Plans to mend a table that has part of a plan applied: the removal of the later copy of the prefix that stands in two
+    /// slots, no writes where none does. The table stays as it is; lookups answer alike after any number of the plan's writes.
+    ///
+    /// Refused with [`Refusal::Image`] where writes of other plans were made, so that the table is none that one plan leaves.
+    pub fn plan_mend(&self) -> Result<Plan, Refusal> {
+        let mut cells = [0; CELLS * MAX_REMOVE_WRITES];
+        let writes = slots::plan_mend(&self.addresses, &self.tags, &mut cells)?;
+        Ok(Plan::of(&cells[..CELLS * writes]))
+    }
+
     /// Makes the first `k` writes of a plan: `k`. A plan belongs to the table that it was made for, as it was then; in another it
     /// can break the order of the slots, so that lookups answer from the first match and updates are refused.
     ///
@@ -127,6 +155,12 @@ impl Table {
     /// Removes a prefix: the number of writes made. Refused as of [`Table::plan_remove`].
     pub fn remove(&mut self, prefix: Prefix) -> Result<usize, Refusal> {
         let plan = self.plan_remove(prefix)?;
+        self.apply(&plan, plan.len())
+    }
+
+    /// Mends the table: the number of writes made. Refused as of [`Table::plan_mend`].
+    pub fn mend(&mut self) -> Result<usize, Refusal> {
+        let plan = self.plan_mend()?;
         self.apply(&plan, plan.len())
     }
 
@@ -214,7 +248,7 @@ impl Plan {
         self.cells.len() / CELLS
     }
 
-    /// Whether there is nothing to write: the prefix has the hop already.
+    /// Whether there is nothing to write: the prefix has the hop already, or the table to be mended is well-formed.
     pub fn is_empty(&self) -> bool {
         self.cells.is_empty()
     }

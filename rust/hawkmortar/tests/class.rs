@@ -27,7 +27,7 @@ fn the_class_page_has_the_lesson_as_it_is_printed() {
 fn the_class_page_names_edits_that_there_are() {
     let page = page();
     let refused: Vec<&str> = page.split("\n- Refused:").skip(1).collect();
-    assert_eq!(refused.len(), 12);
+    assert_eq!(refused.len(), 16);
     for list in refused {
         let list = list.split("\n\n").next().unwrap();
         let names: Vec<&str> = list.split('`').skip(1).step_by(2).collect();

@@ -19,6 +19,22 @@ const AFTER_SETS: &str = "\
 7 00000000 00000007
 ";
 
+/// After each number of writes the answer, the outcomes of a mend with no room and of one with room, and its writes: after the first
+/// the /16 stands in slots 1 and 2.
+const REMOVAL: &str = "\
+0 2
+0 3
+0 0
+0 0
+0 2
+9 0
+0 1
+2 00000000 00000000
+0 2
+0 0
+0 0
+";
+
 const AFTER_REMOVAL: &str = "\
 0 4
 0 0a140409 00200002
@@ -127,9 +143,8 @@ fn a_c_program_over_the_header_answers_the_board() {
     let twice = "4 1\n";
     let prefixes = format!("0 5\n{answers}0 0\n4 3\n1 2\n3 0\n0 0\n");
     let sets = "0 1\n0 1\n0 2\n0 3\n0 2\n";
-    let removal = "0 2\n0 3\n0 2\n0 2\n";
     let builds = "9 0\n0 9\n";
-    let slots = format!("{sets}{AFTER_SETS}{removal}{AFTER_REMOVAL}{DOWNLOAD}");
+    let slots = format!("{sets}{AFTER_SETS}{REMOVAL}{AFTER_REMOVAL}{DOWNLOAD}");
     let ranges = format!("{builds}{RANGES}{answers}");
     let answers_without_32 = "0 3\n0 3\n0 2\n0 7\n";
     let dxr = format!("{CHUNK}{answers}{CHUNK_WITHOUT_32}{answers_without_32}");
