@@ -2,6 +2,8 @@
 
 use second::both;
 use second::both::download::{self, Between};
+use second::both::images::{doubled, pool, runs};
+use second::both::mend::{mended_again, plan_mend, set_of};
 use second::both::records::{bytes_of, follow, random_records};
 use second::both::sequence::{supply, Run, Seen};
 use second::both::{chunk, remove, set, Update};
@@ -15,7 +17,7 @@ const UPDATES: usize = 60;
 /// The walks over a table.
 const WALKS: usize = 3;
 
-/// A sequence of updates from an empty table or one that has entries; every cut of every plan is looked up.
+/// A sequence of updates from an empty table or one that has entries; every cut of every plan is looked up and mended.
 pub fn sequence(mut draw: Random) {
     let most = draw.pick(&[3, 8, 20]);
     let slots = 1 + draw.below(most) as usize;
@@ -41,13 +43,13 @@ pub fn download(mut draw: Random) {
     walks.into_iter().for_each(|between| run.walk(between));
 }
 
-/// An image, good, damaged or of any numbers: its test, lookups, downloads, plans of any room, and applies of plans that may be
-/// damaged.
+/// An image, good, half-written, damaged or of any numbers: its test, lookups, downloads, plans and mends of any room, and applies of
+/// plans that may be damaged.
 pub fn image(draw: &mut Random) {
-    let mut image = if draw.one_in(4) {
-        any_image(draw)
-    } else {
-        good_image(draw)
+    let mut image = match draw.below(4) {
+        0 => any_image(draw),
+        1 => half_written_image(draw),
+        _ => good_image(draw),
     };
     for _ in 0..draw.below(4) {
         both::damage(&mut image, draw);
@@ -58,9 +60,20 @@ pub fn image(draw: &mut Random) {
         let keys = [update.address, draw.number() as u32];
         both::lookups(&image, &keys);
         download::nexts(&image, &[None, Some((update.address, update.length))]);
+        mend(draw, &mut image, &keys);
         let room = draw.below(58) as usize;
         let plan = both::plan(&image, update, room).unwrap_or_default();
         apply(draw, &mut image, plan);
+    }
+}
+
+/// The mend of an image with any room. Where it has writes its cuts are mended too, and one of them is the image from then on.
+fn mend(draw: &mut Random, image: &mut Image, keys: &[u32]) {
+    let room = draw.pick(&[0, 3, 6, 9, 54]) + draw.below(3) as usize;
+    let _ = plan_mend(image, room);
+    if plan_mend(image, 54).is_ok_and(|plan| !plan.is_empty()) {
+        let mut cuts = mended_again(image, &set_of(image), keys);
+        *image = cuts.swap_remove(draw.below(cuts.len() as u64) as usize);
     }
 }
 
@@ -99,7 +112,11 @@ fn update(draw: &mut Random, image: &Image) -> Update {
     } else {
         draw.pick(&cells)
     };
-    let length = (tag >> 16) + if draw.one_in(6) { 1 } else { 0 };
+    let length = match draw.below(8) {
+        0 => (tag >> 16) + 1,
+        1 => 33,
+        _ => tag >> 16,
+    };
     if draw.one_in(3) {
         return remove(address, length);
     }
@@ -121,6 +138,26 @@ fn good_image(draw: &mut Random) -> Image {
             .expect("a free slot");
     }
     book.image()
+}
+
+/// The image of a book's table with one or two entries put in once more, as long as it has an entry and a free slot. In some a slot has
+/// another hop then.
+fn half_written_image(draw: &mut Random) -> Image {
+    let mut image = good_image(draw);
+    for _ in 0..draw.pick(&[1, 1, 2]) {
+        let runs = runs(&image);
+        if runs.is_empty() || pool(&image).is_empty() {
+            return image;
+        }
+        let run = &runs[draw.below(runs.len() as u64) as usize];
+        let mut of_run = |slots: usize| run.start + draw.below(slots as u64) as usize;
+        image = doubled(&image, of_run(run.len()), of_run(run.len() + 1));
+    }
+    let slot = draw.below(image.tags.len() as u64) as usize;
+    if image.tags[slot] != 0 && draw.one_in(3) {
+        image.tags[slot] = image.tags[slot] & !0xffff | 4;
+    }
+    image
 }
 
 /// An image of any cells, rarely of more than the most.

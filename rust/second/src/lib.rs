@@ -9,6 +9,7 @@ pub mod both;
 pub mod download;
 pub mod dxr;
 pub mod list;
+pub mod mend;
 pub mod program;
 pub mod random;
 pub mod ranges;

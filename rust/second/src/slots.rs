@@ -176,13 +176,18 @@ pub fn check_by_runs(addresses: &[u32], tags: &[u32]) -> Result<usize, Fault> {
     }
 }
 
-/// S1 to S4 alone, rule by rule: the first refusal, if there is any.
-pub fn check_s1_to_s4(addresses: &[u32], tags: &[u32]) -> Result<(), Fault> {
+/// The cells of an image that keeps S1 to S4.
+pub(crate) fn ordered(addresses: &[u32], tags: &[u32]) -> Result<Vec<Cell>, Fault> {
     let cells = cells(addresses, tags)?;
     match [s1, s2, s3, s4].iter().filter_map(|rule| rule(&cells)).min() {
         Some(slot) => Err((7, slot)),
-        None => Ok(()),
+        None => Ok(cells),
     }
+}
+
+/// S1 to S4 alone, rule by rule: the first refusal, if there is any.
+pub fn check_s1_to_s4(addresses: &[u32], tags: &[u32]) -> Result<(), Fault> {
+    ordered(addresses, tags).map(|_| ())
 }
 
 /// An entry of an image, and whether its prefix stands before it.
@@ -247,7 +252,7 @@ fn along(path: &[usize], addresses: &[u32], tags: &[u32], last: (u32, u32)) -> V
 }
 
 /// The writes, where `room` cells are enough for them.
-fn with_room(writes: Vec<Write>, room: usize) -> Result<Vec<Write>, Fault> {
+pub(crate) fn with_room(writes: Vec<Write>, room: usize) -> Result<Vec<Write>, Fault> {
     if 3 * writes.len() > room {
         return Err((9, 0));
     }
@@ -293,6 +298,21 @@ pub fn plan_set(
     with_room(along(&path, addresses, tags, new), room)
 }
 
+/// The writes that remove the entry in a slot, whose length is given.
+pub(crate) fn removal(cells: &[Cell], addresses: &[u32], tags: &[u32], slot: usize, length: u32) -> Vec<Write> {
+    let by_length = slots_by_length(cells);
+    let n = length as usize;
+    let mut path = vec![slot];
+    if n >= 16 {
+        path.extend((16..=n).rev().filter_map(|moved| by_length[moved].last()));
+    } else {
+        path.extend((n..=15).filter_map(|moved| by_length[moved].first()));
+    }
+    // there is no edge move where the slot is its length's edge
+    path.dedup();
+    along(&path, addresses, tags, (0, 0))
+}
+
 /// The writes that remove a prefix, for an output of `room` cells, or the first refusal.
 pub fn plan_remove(
     addresses: &[u32],
@@ -309,17 +329,7 @@ pub fn plan_remove(
     let Some((slot, _, _)) = entries(&cells).find(|&(_, a, n)| (a, n) == (address, length)) else {
         return Err((6, 0));
     };
-    let by_length = slots_by_length(&cells);
-    let n = length as usize;
-    let mut path = vec![slot];
-    if n >= 16 {
-        path.extend((16..=n).rev().filter_map(|moved| by_length[moved].last()));
-    } else {
-        path.extend((n..=15).filter_map(|moved| by_length[moved].first()));
-    }
-    // an entry at its length's edge is not moved over itself
-    path.dedup();
-    with_room(along(&path, addresses, tags, (0, 0)), room)
+    with_room(removal(&cells, addresses, tags, slot, length), room)
 }
 
 /// Makes the first `k` writes of a plan: `k`, or the refusal.

@@ -5,6 +5,7 @@ use hawkmortar::{Download, NextHop, Plan, Prefix, Route, Table};
 use second::book::Book;
 use second::both;
 use second::both::download::{next, nexts, prefixes, Between, Run, Seen, Walk};
+use second::both::images::{bad_cells, board, image_of};
 use second::both::list::prefix_at;
 use second::both::sequence::supply;
 use second::both::{apply, plan, remove, set, Update};
@@ -15,28 +16,6 @@ use second::slots::{Image, Write};
 use second::Fault;
 use std::collections::BTreeSet;
 use std::ops::Range;
-
-/// The image of slots given as address, length and hop; all 0 is a free slot.
-fn image_of(slots: &[(u32, u32, u32)]) -> Image {
-    Image {
-        addresses: slots.iter().map(|&(address, _, _)| address).collect(),
-        tags: slots.iter().map(|&(_, length, hop)| length << 16 | hop).collect(),
-    }
-}
-
-/// The image of case f of the board.
-fn board() -> Image {
-    image_of(&[
-        (ip([10, 20, 4, 9]), 32, 2),
-        (ip([10, 20, 4, 0]), 24, 3),
-        (ip([10, 20, 0, 0]), 16, 2),
-        (0, 0, 0),
-        (0, 0, 0),
-        (0, 0, 0),
-        (ip([10, 0, 0, 0]), 8, 1),
-        (0, 0, 7),
-    ])
-}
 
 /// A walk by the library over an image that stays as it is: the entries.
 fn walked(image: &Image) -> Vec<Entry> {
@@ -409,21 +388,6 @@ fn limits_of_slots_of_a_download() {
         image.tags.resize(tags, 0);
         refused(&image, (8, 0));
     }
-}
-
-/// The ways to break S1: a free slot with an address, a length over 32, an address that is no multiple, no hop.
-fn bad_cells() -> [(u32, u32); 9] {
-    [
-        (8, 0),
-        (1 << 31, 0),
-        (0, 33 << 16 | 1),
-        (0, u32::MAX),
-        (1, 31 << 16 | 1),
-        (1 << 31, 1),
-        (ip([10, 20, 4, 0]), 16 << 16 | 2),
-        (ip([10, 20, 4, 0]), 24 << 16),
-        (0, 24 << 16),
-    ]
 }
 
 #[test]

@@ -2,43 +2,16 @@
 //! image of chosen cells and on tables of 64, 1,024 and 4,096 slots with a prefix repeated in one run, in another and across the
 //! pool, alone and with other rules broken.
 
-use second::book::Book;
+use second::both::images::{
+    broken, cell, copied, length, other_hop, pairs, pool, routed_tables, runs, small_images, table_of, with, CELLS,
+    FREE,
+};
 use second::both::{check_by_runs, plan, remove, set};
 use second::ip;
-use second::random::{Random, Rows};
+use second::random::Rows;
 use second::slots::{check_s1_to_s4, repeats, Image};
 use std::collections::BTreeSet;
 use std::ops::Range;
-
-/// An address and a tag.
-type Cell = (u32, u32);
-
-const FREE: Cell = (0, 0);
-
-fn cell(image: &Image, slot: usize) -> Cell {
-    (image.addresses[slot], image.tags[slot])
-}
-
-fn length(image: &Image, slot: usize) -> u32 {
-    image.tags[slot] >> 16
-}
-
-/// The image with another cell in a slot.
-fn with(image: &Image, slot: usize, (address, tag): Cell) -> Image {
-    let mut image = image.clone();
-    (image.addresses[slot], image.tags[slot]) = (address, tag);
-    image
-}
-
-/// The image with the cell of one slot in another one too.
-fn copied(image: &Image, from: usize, to: usize) -> Image {
-    with(image, to, cell(image, from))
-}
-
-/// The same prefix under another next hop.
-fn other_hop((address, tag): Cell) -> Cell {
-    (address, if tag & 0xffff == 9 { tag + 1 } else { tag & !0xffff | 9 })
-}
 
 /// The first slot that breaks S1 to S4, or the number of slots.
 fn first_out_of_order(image: &Image) -> usize {
@@ -71,39 +44,6 @@ fn refused(image: &Image, slot: usize) {
     if image.tags.len() <= 64 {
         run_decides(image);
     }
-}
-
-/// A free slot; three prefixes of length 24, one of them under two next hops, and three of length 8 so; the default route under two
-/// next hops; other lengths above the pool and below it, one address at all lengths but 0; and two cells that break S1, one with an
-/// entry's length and one with no tag.
-const CELLS: [Cell; 16] = [
-    FREE,
-    (0x0a00_0000, 32 << 16 | 1),
-    (0x0a00_0000, 24 << 16 | 1),
-    (0x0a00_0000, 24 << 16 | 2),
-    (0x0a00_0100, 24 << 16 | 1),
-    (0x0a00_0200, 24 << 16 | 1),
-    (0x0a00_0000, 16 << 16 | 1),
-    (0x0a00_0000, 15 << 16 | 1),
-    (0x0a00_0000, 8 << 16 | 1),
-    (0x0a00_0000, 8 << 16 | 2),
-    (0x0b00_0000, 8 << 16 | 1),
-    (0x0c00_0000, 8 << 16 | 1),
-    (0, 7),
-    (0, 8),
-    (0x0a00_0001, 24 << 16 | 1),
-    (0x0a00_0000, 0),
-];
-
-/// Every image of 1 to 5 slots of the chosen cells.
-fn small_images() -> impl Iterator<Item = Image> {
-    let count = CELLS.len();
-    (1..=5).flat_map(move |slots| {
-        (0..count.pow(slots)).map(move |i| {
-            let (addresses, tags) = (0..slots).map(|slot| CELLS[i / count.pow(slot) % count]).unzip();
-            Image { addresses, tags }
-        })
-    })
 }
 
 /// The image test, and on up to 4 slots a set and a removal.
@@ -176,50 +116,6 @@ fn the_run_before_each_entry() {
     assert_eq!(check_by_runs(&image), Err((7, 4)));
 }
 
-/// A table with so many routes: three in five have length 24, the others 8 to 32.
-fn routed(random: &mut Random, slots: usize, routes: usize) -> Image {
-    let prefix = |random: &mut Random| {
-        let length = if random.below(5) < 3 { 24 } else { 8 + random.below(25) };
-        (length as u32, random.number() as u32)
-    };
-    let list = Rows::distinct(random, routes, prefix, |random| 1 + random.below(20) as u32);
-    table(slots, &list)
-}
-
-/// The table of a list, as the book has it.
-fn table(slots: usize, list: &Rows) -> Image {
-    let mut book = Book::new(slots);
-    for (i, &address) in list.addresses.iter().enumerate() {
-        book.set(address, list.lengths[i], list.hops[i], 54).unwrap();
-    }
-    let image = book.image();
-    assert_eq!(check_by_runs(&image), Ok(list.addresses.len()));
-    image
-}
-
-/// Tables of 64, 1,024 and 4,096 slots, one of each full and one with a pool.
-fn routed_tables() -> Vec<Image> {
-    let mut random = Random::new(50);
-    [
-        (64, 64),
-        (64, 51),
-        (1024, 1024),
-        (1024, 901),
-        (4096, 4096),
-        (4096, 3777),
-    ]
-    .map(|(slots, routes)| routed(&mut random, slots, routes))
-    .into()
-}
-
-/// The slots of each length in a well-formed table, from slot 0 upward.
-fn runs(image: &Image) -> Vec<Range<usize>> {
-    let used: Vec<usize> = (0..image.tags.len()).filter(|&slot| image.tags[slot] != 0).collect();
-    used.chunk_by(|&one, &next| length(image, one) == length(image, next))
-        .map(|run| run[0]..run[run.len() - 1] + 1)
-        .collect()
-}
-
 /// The runs of a table of up to 1,024 slots; of a larger one the longest run, those next to the pool and every fourth.
 fn some_runs(image: &Image) -> Vec<Range<usize>> {
     let (runs, pool) = (runs(image), pool(image));
@@ -233,66 +129,9 @@ fn some_runs(image: &Image) -> Vec<Range<usize>> {
     kept.map(|(_, run)| run.clone()).collect()
 }
 
-/// The free slots of a well-formed table.
-fn pool(image: &Image) -> Range<usize> {
-    let above = image.tags.iter().take_while(|&&tag| tag != 0).count();
-    let free = image.tags[above..].iter().take_while(|&&tag| tag == 0).count();
-    above..above + free
-}
-
 /// The first, the middle and the last slot of a run.
 fn places(run: &Range<usize>) -> BTreeSet<usize> {
     BTreeSet::from([run.start, (run.start + run.end) / 2, run.end - 1])
-}
-
-/// Pairs of an earlier and a later slot of a run: every pair in a table of 64 slots, chosen ones in a larger.
-fn pairs(image: &Image, run: &Range<usize>) -> BTreeSet<(usize, usize)> {
-    let (slots, start) = (image.tags.len(), run.start);
-    if slots == 64 {
-        let of_later = |later| (start..later).map(move |earlier| (earlier, later));
-        return run.clone().flat_map(of_later).collect();
-    }
-    let mut pairs = if run.len() < 192 {
-        pairs_at_ends(run)
-    } else {
-        pairs_about_blocks(run)
-    };
-    pairs.retain(|&(earlier, later)| start <= earlier && earlier < later && later < run.end);
-    pairs
-}
-
-/// The second, the middle and the last slot of a run as the later one, each with the first and with its neighbour.
-fn pairs_at_ends(run: &Range<usize>) -> BTreeSet<(usize, usize)> {
-    let laters = [run.start + 1, (run.start + run.end) / 2, run.end - 1];
-    laters
-        .iter()
-        .flat_map(|&later| [(run.start, later), (later.wrapping_sub(1), later)])
-        .collect()
-}
-
-/// The pairs at the ends; and the middle slot, the last, those about 64 slots behind the first and about a multiple of 64 as the later
-/// one, each with the run's first, second and middle slot and with slots at distances about multiples of 64. Some of these lie
-/// outside the run.
-fn pairs_about_blocks(run: &Range<usize>) -> BTreeSet<(usize, usize)> {
-    let (start, middle) = (run.start, (run.start + run.end) / 2);
-    let multiple = start.next_multiple_of(64) + 64;
-    let laters = [
-        start + 63,
-        start + 64,
-        start + 65,
-        multiple - 1,
-        multiple,
-        multiple + 1,
-        middle,
-        run.end - 1,
-    ];
-    let mut pairs = pairs_at_ends(run);
-    for later in laters {
-        pairs.extend([(start, later), (start + 1, later), (middle, later)]);
-        let distances = [1, 2, 63, 64, 65, 127, 128, 129, 192, 1024, 2048];
-        pairs.extend(distances.map(|distance| (later.wrapping_sub(distance), later)));
-    }
-    pairs
 }
 
 /// An earlier entry of a run over a later one, with its next hop and with another.
@@ -300,6 +139,7 @@ fn pairs_about_blocks(run: &Range<usize>) -> BTreeSet<(usize, usize)> {
 fn a_prefix_twice_in_its_run() {
     let mut images = [0; 2];
     for good in routed_tables() {
+        assert!(check_by_runs(&good).is_ok());
         let longest = runs(&good).into_iter().max_by_key(Range::len).unwrap();
         assert!(longest.start % 64 != 0 && longest.len() > good.tags.len() / 2);
         for run in runs(&good) {
@@ -397,19 +237,6 @@ fn the_pool_and_free_slots_about_a_repeat() {
     assert!(images > 500, "{images}");
 }
 
-/// The table with one of S1 to S4 broken at a slot of a run that is not its first; S3 is broken where the slot before is cleared.
-fn broken(image: &Image, slot: usize, rule: u32) -> Option<Image> {
-    let (address, tag) = cell(image, slot);
-    let length = tag >> 16;
-    match rule {
-        1 => Some(with(image, slot, (address | 1, tag & !0xffff))),
-        2 if length < 32 => Some(with(image, slot, (address, tag + 65_536))),
-        3 if length >= 16 => Some(with(image, slot - 1, FREE)),
-        4 if length <= 15 => Some(with(image, slot, FREE)),
-        _ => None,
-    }
-}
-
 /// S1 to S4 broken before a repeat, at it and behind it, in its run and in the others: the first broken slot is named.
 #[test]
 fn other_rules_broken_about_a_repeat() {
@@ -463,7 +290,7 @@ fn tables_in_one_word() -> Vec<Image> {
             assert_eq!(addresses.len(), entries);
             addresses.iter().for_each(|&address| list.push(address, length, 1));
         }
-        table(slots, &list)
+        table_of(slots, &list)
     };
     tables.map(of_table).into()
 }
@@ -473,6 +300,7 @@ fn tables_in_one_word() -> Vec<Image> {
 fn a_prefix_twice_in_one_word_of_the_filter() {
     let mut images = 0;
     for good in tables_in_one_word() {
+        assert!(check_by_runs(&good).is_ok());
         for run in runs(&good) {
             for (earlier, later) in pairs(&good, &run) {
                 refused(&with(&good, later, other_hop(cell(&good, earlier))), later);

@@ -24,6 +24,13 @@ fn frequent(
     }
 }
 
+/// Mends of each of these numbers of writes came at least so often.
+fn mended(seen: &Seen, least: usize, writes: RangeInclusive<usize>) {
+    for writes in writes {
+        assert!(seen.mends[writes] >= least, "mends of {writes} writes: {seen:?}");
+    }
+}
+
 /// An empty table of so many slots, and one call in `odd` at odds with its filling.
 fn start(seed: u64, slots: usize, odd: u64, seen: &mut Seen) -> Run<'_> {
     let mut random = Random::new(seed);
@@ -48,6 +55,7 @@ fn small_tables(seeds: Range<u64>, most: u64) -> Seen {
 fn sequences_on_up_to_12_slots() {
     let seen = small_tables(0..250, 12);
     frequent(&seen, 300, &[1, 2, 3, 5, 6, 7, 8, 9, 10], 1..=5, 1..=5);
+    mended(&seen, 300, 0..=5);
 }
 
 #[test]
@@ -55,6 +63,7 @@ fn sequences_on_up_to_64_slots() {
     let seen = small_tables(250..1000, 64);
     frequent(&seen, 1000, &[1, 2, 3, 5, 6, 7, 8, 9, 10], 1..=8, 1..=8);
     frequent(&seen, 20, &[], 1..=17, 1..=18);
+    mended(&seen, 20, 0..=17);
 }
 
 /// Sequences on 4,096 slots, each in a thread of its own: sets in an empty table up to so many entries, then 5,000 calls. One of
@@ -82,6 +91,7 @@ fn sequences_on_4096_slots_from_empty() {
     let seen = large_tables(2000..2008, 0, 0, 40);
     frequent(&seen, 100, &[1, 2, 3, 7, 8, 9, 10], 1..=17, 2..=9);
     frequent(&seen, 20, &[5, 6], 1..=17, 2..=18);
+    mended(&seen, 20, 0..=10);
 }
 
 #[test]
@@ -89,6 +99,7 @@ fn sequences_on_4096_slots_from_full() {
     let seen = large_tables(2008..2016, 4096, 0, 40);
     frequent(&seen, 100, &[1, 2, 6, 7, 8, 9, 10], 1..=7, 2..=18);
     assert!(seen.edge_moves > 20_000, "{seen:?}");
+    mended(&seen, 20, 0..=10);
 }
 
 #[test]
@@ -96,6 +107,7 @@ fn sequences_on_4096_slots_about_full() {
     let seen = large_tables(2016..2020, 4090, 4060, 3);
     frequent(&seen, 100, &[1, 2, 3, 5, 6, 7, 8, 9, 10], 1..=6, 2..=9);
     frequent(&seen, 20, &[], 1..=17, 2..=18);
+    mended(&seen, 20, 0..=8);
     assert!(
         seen.other_hop > 300 && seen.same_hop > 300 && seen.full > 300,
         "{seen:?}"

@@ -3,6 +3,7 @@
 use hawkmortar::{NextHop, Prefix, Refusal, Table, MAX_SLOTS};
 use second::book::Book;
 use second::both;
+use second::both::images::{bad_cells, board, by_writes, image_of, prefix, table};
 use second::both::{apply, check, edges, lookup, lookups, plan, remove, set, Update};
 use second::ip;
 use second::random::Random;
@@ -14,14 +15,6 @@ fn make(image: &mut Image, update: Update) -> Result<usize, second::Fault> {
     apply(image, &cells, cells.len() / 3)
 }
 
-/// The image of slots given as address, length and hop; all 0 is a free slot.
-fn image_of(slots: &[(u32, u32, u32)]) -> Image {
-    Image {
-        addresses: slots.iter().map(|&(address, _, _)| address).collect(),
-        tags: slots.iter().map(|&(_, length, hop)| length << 16 | hop).collect(),
-    }
-}
-
 /// The board's set P, in its order.
 fn set_p() -> [Update; 5] {
     [
@@ -31,36 +24,6 @@ fn set_p() -> [Update; 5] {
         set(ip([10, 20, 4, 9]), 32, 2),
         set(0, 0, 7),
     ]
-}
-
-/// The image of case f.
-fn board() -> Image {
-    image_of(&[
-        (ip([10, 20, 4, 9]), 32, 2),
-        (ip([10, 20, 4, 0]), 24, 3),
-        (ip([10, 20, 0, 0]), 16, 2),
-        (0, 0, 0),
-        (0, 0, 0),
-        (0, 0, 0),
-        (ip([10, 0, 0, 0]), 8, 1),
-        (0, 0, 7),
-    ])
-}
-
-/// A prefix of a length, the j-th of it.
-fn prefix(length: u32, j: u32) -> u32 {
-    (u64::from(j) << (32 - length)) as u32
-}
-
-/// A table with so many entries of each of some lengths, as the book has it.
-fn table(slots: usize, lengths: impl IntoIterator<Item = u32>, each: u32) -> Image {
-    let mut book = Book::new(slots);
-    for length in lengths {
-        for j in 0..each.min(1u32.checked_shl(length).unwrap_or(u32::MAX)) {
-            book.set(prefix(length, j), length, 1 + j, 54).unwrap();
-        }
-    }
-    book.image()
 }
 
 /// The image test and every update refuse the image so, in both programs, whatever else is wrong.
@@ -241,21 +204,6 @@ fn refusals_of_updates_come_in_their_order() {
     refused(&broken, (7, 3));
     broken.addresses.pop();
     refused(&broken, (8, 0));
-}
-
-/// The ways to break S1: a free slot with an address, a length over 32, an address that is no multiple, no hop.
-fn bad_cells() -> [(u32, u32); 9] {
-    [
-        (8, 0),
-        (1 << 31, 0),
-        (0, 33 << 16 | 1),
-        (0, u32::MAX),
-        (1, 31 << 16 | 1),
-        (1 << 31, 1),
-        (ip([10, 20, 4, 0]), 16 << 16 | 2),
-        (ip([10, 20, 4, 0]), 24 << 16),
-        (0, 24 << 16),
-    ]
 }
 
 #[test]
@@ -524,35 +472,6 @@ fn plans_with_too_few_writes() {
     image.tags[0] = u32::MAX;
     assert_eq!(apply(&mut image, &[1, 0, 5], 1), Ok(1));
     assert_eq!(apply(&mut image, &[0, 0, 5], 1), Ok(1));
-}
-
-/// Tables in which a set, and a removal off the edge and at the edge, take each number of writes: the first lengths next to the
-/// pool have two entries each, and so has the length updated.
-fn by_writes() -> Vec<(Image, Update, usize)> {
-    let mut cases = Vec::new();
-    for moved in 0..=16 {
-        let image = table(64, 16..16 + moved, 2);
-        cases.push((image, set(u32::MAX, 32, 1), 1 + moved as usize));
-        let image = table(64, (16..16 + moved).chain([32]), 2);
-        cases.push((image.clone(), remove(0, 32), 2 + moved as usize));
-        cases.push((image.clone(), remove(image.addresses[1], 32), 1 + moved as usize));
-        cases.push((image, set(0, 32, 9), 1));
-    }
-    for moved in 0..=15 {
-        let image = table(64, 16 - moved..16, 2);
-        cases.push((image, set(0, 0, 1), 1 + moved as usize));
-        let image = table(64, (16 - moved..16).chain([0]), 2);
-        cases.push((image.clone(), remove(0, 0), 1 + moved as usize));
-        cases.push((image, set(0, 0, 9), 1));
-    }
-    for moved in 0..=14 {
-        let image = table(64, (16 - moved..16).chain([1]), 2);
-        let first = image.tags.iter().position(|&tag| tag != 0 && tag >> 16 == 1).unwrap();
-        for (slot, writes) in [(first, 1), (first + 1, 2)] {
-            cases.push((image.clone(), remove(image.addresses[slot], 1), writes + moved as usize));
-        }
-    }
-    cases
 }
 
 #[test]

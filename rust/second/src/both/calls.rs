@@ -16,6 +16,7 @@ pub enum Call {
     SlotLookup,
     PlanSet,
     PlanRemove,
+    PlanMend,
     Apply,
     DownloadFirst,
     DownloadNext,
@@ -27,7 +28,7 @@ pub enum Call {
 }
 
 /// Each call with its name in include/hawkmortar.h, without the library's, and the refusals that it can give.
-pub const CALLS: [(Call, &str, &[u8]); 16] = [
+pub const CALLS: [(Call, &str, &[u8]); 17] = [
     (Call::ListCheck, "list_check", &[1, 2, 3, 4, 8]),
     (Call::ListLookup, "list_lookup", &[1, 2, 3, 4, 8]),
     (Call::PrefixesCheck, "prefixes_check", &[1, 2, 3, 4, 8]),
@@ -36,6 +37,7 @@ pub const CALLS: [(Call, &str, &[u8]); 16] = [
     (Call::SlotLookup, "slot_lookup", &[7, 8]),
     (Call::PlanSet, "plan_set", &[1, 2, 3, 5, 7, 8, 9]),
     (Call::PlanRemove, "plan_remove", &[1, 2, 6, 7, 8, 9]),
+    (Call::PlanMend, "plan_mend", &[7, 8, 9]),
     (Call::Apply, "apply", &[8, 10]),
     (Call::DownloadFirst, "download_first", &[7, 8]),
     (Call::DownloadNext, "download_next", &[1, 2, 7, 8]),

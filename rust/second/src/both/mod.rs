@@ -1,22 +1,23 @@
 //! The calls, each asked of both programs: the answers are compared, and so is every cell that was lent. A refused call has left
 //! all of them as they were, an accepted one has changed exactly what the second program says. A difference is a panic. The slot
-//! calls are here, those of lists in rows and in one slice, the download, ranges, DXR tables and records in their own modules;
-//! `calls` counts them all.
+//! calls are here, those of lists in rows and in one slice, the mend, the download, ranges, DXR tables and records in their own
+//! modules; `calls` counts them all.
 
 pub mod calls;
 pub mod chunk;
 pub mod download;
 pub mod dxr;
+pub mod images;
 pub mod list;
+pub mod mend;
 pub mod prefixes;
 pub mod ranges;
 pub mod records;
 pub mod sequence;
 
-use crate::book::Book;
 use crate::list::bounds;
 use crate::random::{Random, Rows};
-use crate::slots::{self as plain, Image};
+use crate::slots::{self as plain, Image, Write};
 use crate::Fault;
 use calls::{counted, Call};
 use hawkmortar::{slots as proved, NextHop, Refusal};
@@ -122,31 +123,46 @@ pub fn lookup(image: &Image, q: u32) -> Result<u32, Fault> {
 
 /// The plan that both programs make in a row of `room` cells: the cells of its writes. The cells past them are as found.
 pub fn plan(image: &Image, update: Update, room: usize) -> Result<Vec<u32>, Fault> {
+    let Update { address, length, hop } = update;
+    let Image { addresses, tags } = image;
+    match hop {
+        Some(hop) => {
+            let expected = plain::plan_set(addresses, tags, address, length, hop, room);
+            planned(Call::PlanSet, image, room, expected, &update, |lent, row| {
+                proved::plan_set(&lent.addresses, &lent.tags, address, length, hop, row)
+            })
+        }
+        None => {
+            let expected = plain::plan_remove(addresses, tags, address, length, room);
+            planned(Call::PlanRemove, image, room, expected, &update, |lent, row| {
+                proved::plan_remove(&lent.addresses, &lent.tags, address, length, row)
+            })
+        }
+    }
+}
+
+/// The library's plan of a call, in a row of `room` cells, is the second program's: the cells of its writes.
+fn planned(
+    call: Call,
+    image: &Image,
+    room: usize,
+    expected: Result<Vec<Write>, Fault>,
+    what: &impl Debug,
+    library: impl FnOnce(&Image, &mut [u32]) -> Result<usize, Refusal>,
+) -> Result<Vec<u32>, Fault> {
     let blank: Vec<u32> = (0..room as u32).map(|i| 0xabcd_0000 + i).collect();
     let (lent, mut row) = (image.clone(), blank.clone());
-    let Update { address, length, hop } = update;
-    let (call, found, expected) = match hop {
-        Some(hop) => (
-            Call::PlanSet,
-            proved::plan_set(&lent.addresses, &lent.tags, address, length, hop, &mut row),
-            plain::plan_set(&image.addresses, &image.tags, address, length, hop, room),
-        ),
-        None => (
-            Call::PlanRemove,
-            proved::plan_remove(&lent.addresses, &lent.tags, address, length, &mut row),
-            plain::plan_remove(&image.addresses, &image.tags, address, length, room),
-        ),
-    };
+    let found = counted(call, library(&lent, &mut row).map_err(fault));
     let expected = expected.map(|writes| writes.concat());
     assert_eq!(
-        counted(call, found.map_err(fault)),
+        found,
         expected.clone().map(|cells| cells.len() / 3),
-        "{update:?}, room {room}, in {image:?}"
+        "{what:?}, room {room}, in {image:?}"
     );
     let written = expected.as_ref().map_or(&[][..], |cells| cells);
-    assert_eq!(row[..written.len()], *written, "writes of {update:?} in {image:?}");
-    assert_eq!(row[written.len()..], blank[written.len()..], "cells past {update:?}");
-    assert!(lent == *image, "{update:?} changed {image:?}");
+    assert_eq!(row[..written.len()], *written, "writes of {what:?} in {image:?}");
+    assert_eq!(row[written.len()..], blank[written.len()..], "cells past {what:?}");
+    assert!(lent == *image, "{what:?} changed {image:?}");
     expected
 }
 
@@ -171,16 +187,9 @@ pub fn edges(address: u32, length: u32) -> [u32; 4] {
     [first, last, first.wrapping_sub(1), last.wrapping_add(1)]
 }
 
-/// The slots of a good list, as the book has them.
+/// The slots of a good list, as the book has them, none of them free.
 pub fn slots_of(list: &Rows) -> Image {
-    let entries = list.addresses.len();
-    let mut book = Book::new(entries.max(1));
-    for i in 0..entries {
-        book.set(list.addresses[i], list.lengths[i], list.hops[i], 54).unwrap();
-    }
-    let image = book.image();
-    assert_eq!(check(&image), Ok(entries));
-    image
+    images::table_of(list.addresses.len().max(1), list)
 }
 
 /// Some addresses with their two neighbours, and the first and the last address of all.

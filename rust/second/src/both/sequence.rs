@@ -4,7 +4,11 @@
 //! both in it answer as the set before the update, or from the write on that shows the update as the set after. On tables of up
 //! to 64 slots each cut is asked at every edge of every prefix. On 4,096 slots that is up to 16,384 addresses for each cut: there
 //! one accepted update in 2,000 is asked so, the first among them, and the others at the edges that `cuts_at_some_edges` names.
+//!
+//! Every cut is mended too, on 4,096 slots those of one accepted update in 100. The mend leaves the set before the update or the set
+//! after, whichever the cut answers as.
 
+use super::mend::{cuts, mended, mended_again, set_of_list};
 use super::{edges, remove, set, Update};
 use crate::book::Book;
 use crate::list::answer;
@@ -27,6 +31,8 @@ pub struct Seen {
     pub removals: [usize; 19],
     /// Removals with an edge move.
     pub edge_moves: usize,
+    /// Mends of cuts, by their writes.
+    pub mends: [usize; 19],
     /// Refusals, by their number.
     pub refused: [usize; 14],
     /// Calls on a full table.
@@ -43,6 +49,7 @@ impl AddAssign for Seen {
         self.same_hop += other.same_hop;
         add(&mut self.removals, &other.removals);
         self.edge_moves += other.edge_moves;
+        add(&mut self.mends, &other.mends);
         add(&mut self.refused, &other.refused);
         self.full += other.full;
         self.empty += other.empty;
@@ -54,6 +61,16 @@ const ALL_EDGES: usize = 64;
 
 /// On a larger table one accepted update in so many is, the first among them.
 const ONE_IN: usize = 2000;
+
+/// On a table of so many slots the cuts of one accepted update in the first number are mended, and the cuts of these mends for one in
+/// the second.
+fn mended_in(slots: usize) -> (usize, usize) {
+    match slots {
+        0..=12 => (1, 1),
+        13..=ALL_EDGES => (1, 50),
+        _ => (100, 1000),
+    }
+}
 
 /// A table in the middle of a sequence.
 pub struct Run<'a> {
@@ -238,6 +255,7 @@ impl<'a> Run<'a> {
                 } else {
                     self.cuts_at_some_edges(update, &plan, shown, &after);
                 }
+                self.mends(update, &plan, shown, &after);
                 self.refused_applies(&plan);
                 super::apply(&mut self.image, &plan, plan.len() / 3).unwrap();
                 self.list = after;
@@ -310,6 +328,28 @@ impl<'a> Run<'a> {
         if 0 < k && k < plan.len() / 3 && self.random.one_in(8) {
             assert!(matches!(super::plan(&cut, update, 54), Err((7, _))), "{cut:?}");
             self.seen.refused[7] += 1;
+        }
+    }
+
+    /// Every cut of a plan is mended, to the set before the update or to the set after; the table before the first write was so after
+    /// the update before. The cuts of the mend are asked at the edges of the updated prefix and of the one written last, which is the
+    /// one that stands twice.
+    fn mends(&mut self, update: Update, plan: &[u32], shown: usize, after: &Rows) {
+        let (one_in, again_in) = mended_in(self.image.tags.len());
+        if !self.accepted.is_multiple_of(one_in) {
+            return;
+        }
+        let mends = if self.accepted.is_multiple_of(again_in) {
+            mended_again
+        } else {
+            mended
+        };
+        let sets = [&self.list, after].map(set_of_list);
+        for (k, cut) in cuts(&self.image, plan).iter().enumerate().skip(1) {
+            let write = &plan[3 * (k - 1)..][..3];
+            let keys = [edges(update.address, update.length), edges(write[1], write[2] >> 16)];
+            let of_mend = mends(cut, &sets[usize::from(k >= shown)], keys.as_flattened());
+            self.seen.mends[of_mend.len() - 1] += 1;
         }
     }
 
