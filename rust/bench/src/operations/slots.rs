@@ -23,6 +23,11 @@ pub fn all(measure: &mut dyn Measure) {
         &in_one_word(&mixed_lengths()),
     );
     check(measure, one_word("length 32").asked(0.44), &in_one_word(&[(32, 4096)]));
+    for (slots, calls) in [(64, 2000), (1024, 100), (4096, 20)] {
+        let mend = |image: &str| operation(&format!("plan a mend, {image}"), slots, calls).asked(1.1);
+        plan_mend(measure, mend("half-written"), &half_written(slots), 8);
+        plan_mend(measure, mend("well-formed"), &rows(slots), 0);
+    }
     for slots in [64, 1024, 4096] {
         apply(measure, slots, 20_000);
     }
@@ -169,6 +174,37 @@ fn plan_remove(measure: &mut dyn Measure, slots: u32, calls: u32) {
             &mut || {
                 let (rows, plan) = ((black_box(&addresses), black_box(&tags)), black_box(&mut plain));
                 let _ = black_box(plain::slots::plan_remove(rows.0, rows.1, black_box(present), 32, plan));
+            },
+        ],
+    );
+}
+
+/// The rows of so many slots with the first 8 of 17 writes made that set an absent /32: a /23 stands twice.
+fn half_written(slots: u32) -> (Vec<u32>, Vec<u32>) {
+    let (mut addresses, mut tags) = rows(slots);
+    let mut plan = [0; 51];
+    let writes = hawkmortar::slots::plan_set(&addresses, &tags, u32::MAX, 32, 9, &mut plan);
+    assert_eq!(writes, Ok(17));
+    assert_eq!(hawkmortar::slots::apply(&mut addresses, &mut tags, &plan, 8), Ok(8));
+    (addresses, tags)
+}
+
+/// Plain Rust compares an entry with the entries of its length before it.
+fn plan_mend(measure: &mut dyn Measure, operation: Operation, (addresses, tags): &(Vec<u32>, Vec<u32>), writes: usize) {
+    let (mut proved, mut plain) = ([0; 54], [0; 54]);
+    assert_eq!(hawkmortar::slots::plan_mend(addresses, tags, &mut proved), Ok(writes));
+    assert_eq!(plain::slots::plan_mend(addresses, tags, &mut plain), Ok(writes));
+    assert_eq!(proved, plain);
+    measure.compare(
+        operation,
+        [
+            &mut || {
+                let (rows, plan) = ((black_box(addresses), black_box(tags)), black_box(&mut proved));
+                let _ = black_box(hawkmortar::slots::plan_mend(rows.0, rows.1, plan));
+            },
+            &mut || {
+                let (rows, plan) = ((black_box(addresses), black_box(tags)), black_box(&mut plain));
+                let _ = black_box(plain::slots::plan_mend(rows.0, rows.1, plan));
             },
         ],
     );

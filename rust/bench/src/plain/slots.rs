@@ -41,31 +41,54 @@ fn holds(address: u32, tag: u32, prefix: u32, length: u32) -> bool {
     address == prefix && tag >> 16 == length && tag != 0
 }
 
+/// S1 to S4, asked of each slot in turn.
+struct Order {
+    free_before: bool,
+    last_length: u32,
+}
+
+impl Order {
+    fn new() -> Self {
+        Order {
+            free_before: false,
+            last_length: 32,
+        }
+    }
+
+    /// Whether the next slot keeps them, where those before it do.
+    fn keeps(&mut self, address: u32, tag: u32) -> bool {
+        let length = tag >> 16;
+        if !keeps_s1(address, tag) {
+            return false;
+        }
+        if tag == 0 {
+            self.free_before = true;
+            return self.last_length >= 16;
+        }
+        if length > self.last_length || (length >= 16 && self.free_before) {
+            return false;
+        }
+        self.last_length = length;
+        true
+    }
+}
+
 /// Refusals 8 and 7; the number of used slots.
 #[inline(never)]
 pub fn check(addresses: &[u32], tags: &[u32]) -> Result<usize, Fault> {
     size_fault(addresses, tags)?;
-    let (mut used, mut free_before, mut last_length) = (0, false, 32);
+    let (mut used, mut order) = (0, Order::new());
     for (slot, (&address, &tag)) in addresses.iter().zip(tags).enumerate() {
-        let length = tag >> 16;
-        if !keeps_s1(address, tag) {
+        if !order.keeps(address, tag) {
             return Err((7, slot));
         }
         if tag == 0 {
-            if last_length < 16 {
-                return Err((7, slot));
-            }
-            free_before = true;
             continue;
         }
-        if length > last_length || (length >= 16 && free_before) {
-            return Err((7, slot));
-        }
         let mut earlier = addresses[..slot].iter().zip(&tags[..slot]);
-        if earlier.any(|(&a, &t)| holds(a, t, address, length)) {
+        if earlier.any(|(&a, &t)| holds(a, t, address, tag >> 16)) {
             return Err((7, slot));
         }
-        last_length = length;
         used += 1;
     }
     Ok(used)
@@ -121,7 +144,7 @@ struct Edges {
 }
 
 impl Edges {
-    /// The edges in a well-formed image.
+    /// The edges in an image that keeps S1 to S4.
     fn of(tags: &[u32]) -> Self {
         let (mut first, mut last) = ([NONE; 34], [NONE; 34]);
         for (slot, &tag) in tags.iter().enumerate() {
@@ -226,8 +249,13 @@ pub fn plan_remove(
     check(addresses, tags)?;
     entry_fault(0, address, length, 1)?;
     let slot = find(addresses, tags, address, length).ok_or((6, 0))?;
+    removal(tags, slot).write(addresses, tags, (0, 0), plan)
+}
+
+/// The path of the removal of what a slot holds.
+fn removal(tags: &[u32], slot: usize) -> Path {
     let edges = Edges::of(tags);
-    let n = length as usize;
+    let n = (tags[slot] >> 16) as usize;
     let mut path = Path::from(slot);
     let edge = if n >= SPLIT { edges.last[n] } else { edges.first[n] };
     if edge != slot {
@@ -238,7 +266,46 @@ pub fn plan_remove(
     } else {
         edges.first[n + 1..SPLIT].iter().for_each(|&slot| path.push(slot));
     }
-    path.write(addresses, tags, (0, 0), plan)
+    path
+}
+
+/// The writes of a mend; refusals 8, 7, 9.
+#[inline(never)]
+pub fn plan_mend(addresses: &[u32], tags: &[u32], plan: &mut [u32]) -> Result<usize, Fault> {
+    size_fault(addresses, tags)?;
+    let mut order = Order::new();
+    let mut cells = addresses.iter().zip(tags);
+    if let Some(slot) = cells.position(|(&address, &tag)| !order.keeps(address, tag)) {
+        return Err((7, slot));
+    }
+    match later_copy(addresses, tags)? {
+        Some(slot) => removal(tags, slot).write(addresses, tags, (0, 0), plan),
+        None => Ok(0),
+    }
+}
+
+/// The slot that repeats a prefix, in an image that keeps S1 to S4; refusal 7 for another tag and for a second such slot.
+fn later_copy(addresses: &[u32], tags: &[u32]) -> Result<Option<usize>, Fault> {
+    // the entries of one length stand next to each other, those of this length from `run` on
+    let (mut run, mut copy) = (0, None);
+    for (slot, (&address, &tag)) in addresses.iter().zip(tags).enumerate() {
+        if tag == 0 {
+            run = slot + 1;
+            continue;
+        }
+        if tag >> 16 != tags[run] >> 16 {
+            run = slot;
+        }
+        if !addresses[run..slot].contains(&address) {
+            continue;
+        }
+        let mut earlier = addresses[run..slot].iter().zip(&tags[run..slot]);
+        if copy.is_some() || earlier.any(|(&a, &t)| a == address && t != tag) {
+            return Err((7, slot));
+        }
+        copy = Some(slot);
+    }
+    Ok(copy)
 }
 
 /// Makes the first k writes; refusals 8, 10.
