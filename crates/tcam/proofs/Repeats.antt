@@ -1,7 +1,7 @@
 -- The pass for repeats: what slot i comes to, and that the slots before it repeat a prefix at most once.
 use Prim.Native.Nat.{ℕ, zero, suc, _+_, _-_, _≤_, _<_}
 use mathlib.Core.Path.{_≡_, refl, sym, ap, _∙_}
-use mathlib.Core.Bool.{Bool, true, false, cond, not, _&&_, _||_, and-false, and-true, or-comm}
+use mathlib.Core.Bool.{true, false, cond, not, _||_, and-false, and-true, or-comm}
 use mathlib.Core.List.{List, []}
 use mathlib.Core.Option.{Option, none, some}
 use native.Mathlib.Omega.{arith}
@@ -16,7 +16,7 @@ use Rattle.route.specs.Loops.{before, placesFrom}
 use Rattle.tcam.specs.Slots.{Cell, cells, isFree, lengthIn, samePrefixIn, repeats}
 use Rattle.tcam.specs.Plans.{isSome, orElse}
 use Rattle.tcam.specs.Mend.{orderFault, otherTagIn, contradicts, repeatFault, repeatSlot}
-use Rattle.tcam.specs.Loops.{cellAt, TestedBefore, PlacedAt, repeatsAt, FreeBetween, EntryAt, repeatOf, sinceAt, RepeatWith, MendFound, TableRows}
+use Rattle.tcam.specs.Loops.{cellAt, TestedBefore, PlacedAt, repeatsAt, FreeBetween, EntryAt, repeatOf, sinceAt, failsAt, RepeatWith, MendFound, TableRows}
 use Rattle.tcam.specs.Shown.{placeOf}
 use Rattle.route.specs.declared.Refusal.{Refusal}
 use Rattle.tcam.specs.declared.image.Seen.{Seen}
@@ -46,10 +46,6 @@ contradicts-not c bs e = byTest (isFree c)
 repeats-used : (at : ℕ → Cell) (i : ℕ) → repeatsAt at i ≡ true → isFree (at i) ≡ false
 repeats-used at i e = not-true _ (and-parts (not (isFree (at i))) (any (samePrefixIn (at i)) (before at i)) e .0)
 
--- slot i has another tag than an earlier copy, or is the second slot to repeat a prefix
-abbrev failsAt : (ℕ → Cell) → Option ℕ → ℕ → Bool
-failsAt at o i = contradicts (at i) (before at i) || (isSome o && repeatsAt at i)
-
 module _ (at : ℕ → Cell) (i : ℕ) where
   -- what slot i comes to: no repeat
   repeats-not : (o : Option ℕ) → repeatsAt at i ≡ false →
@@ -67,7 +63,8 @@ module _ (at : ℕ → Cell) (i : ℕ) where
   module _ (r : Repeats) (n : r .refused ≡ false) (e : repeatsAt at i ≡ true) where
     -- the second slot to repeat a prefix, or another tag
     pub with-bad : (r .found || contradicts (at i) (before at i)) ≡ true → RepeatWith at (repeatOf r) i (Refused (Image i))
-    with-bad b = rw n (rw (e, and-true (isSome (placeOf (cond (r .found) (At (r .later)) Nowhere))), found-some) (rw (or-comm (contradicts (at i) (before at i)) (r .found), b)))
+    with-bad b = rw n (rw (e, and-true (isSome (placeOf (cond (r .found) (At (r .later)) Nowhere))), found-some)
+        (rw (or-comm (contradicts (at i) (before at i)) (r .found), b)))
       where
         found-some : isSome (placeOf (cond (r .found) (At (r .later)) Nowhere)) ≡ r .found
         found-some = either (λ p. isSome (placeOf p) ≡ r .found) (r .found) sym sym

@@ -214,10 +214,13 @@ repeatOf r = cond (r .refused) (Refused (Image (r .first .0))) (Found (cond (r .
 abbrev pub sinceAt : Option ℕ → Bool → ℕ → Option ℕ
 sinceAt o r i = orElse o (cond r (some i) none)
 
+-- whether slot i has another tag than an earlier copy, or is the second slot to repeat a prefix, the slot o being the first
+abbrev pub failsAt : (ℕ → Cell) → Option ℕ → ℕ → Bool
+failsAt at o i = contradicts (at i) (before at i) || (isSome o && repeatsAt at i)
+
 -- what slot i comes to, where the slots before it repeat a prefix at the slot o: refusal 7, or the slot of the later copy up to slot i
 abbrev pub RepeatAt : (ℕ → Cell) → Option ℕ → ℕ → Repeat → Type 0
-RepeatAt at o i r =
-    IsRepeat r (faultIf (contradicts (at i) (before at i) || (isSome o && repeatsAt at i)) imageRefusal i) (sinceAt o (repeatsAt at i) i)
+RepeatAt at o i r = IsRepeat r (faultIf (failsAt at o i) imageRefusal i) (sinceAt o (repeatsAt at i) i)
 
 -- and where one of them may be refused already
 abbrev pub RepeatWith : (ℕ → Cell) → Repeat → ℕ → Repeat → Type 0

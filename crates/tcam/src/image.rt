@@ -141,8 +141,9 @@ fn stands_between(addresses: &[u32], from: Slot, to: Slot, address: u32) -> bool
     false
 }
 
-// Whether slot i, which holds c and keeps S1 to S4, repeats an earlier prefix. Where its prefix was not noted, no
-// slot before it holds that; where it has another length than the nearest entry, its run is empty.
+// Whether slot i, which holds c and keeps S1 to S4, repeats an earlier prefix. Where its prefix was not
+// noted, no slot before it holds that; where it has another length than the nearest entry, its run is
+// empty.
 pub(crate) fn repeats_earlier(
     addresses: &[u32],
     tags: &[u32],
