@@ -19,7 +19,7 @@ use ranges::MAX_RANGES;
 use route::{Counted, OptionalHop, Refusal};
 
 // The ranges of a chunk: from the first up to the end.
-#[derive(Drop)]
+#[derive(Clone, Copy)]
 struct Part {
     first: usize,
     end: usize,

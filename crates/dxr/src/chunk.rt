@@ -16,7 +16,7 @@ use route::OptionalHop;
 
 // A chunk as it is stored: its main word, which is the hop where there is one entry, and how many
 // range words are used then.
-#[derive(Drop)]
+#[derive(Clone, Copy)]
 pub struct Stored {
     pub word: u32,
     pub used: usize,

@@ -3,6 +3,8 @@
 // The upper 16 bits of an address choose its chunk, one of 65,536, and the lower 16 are the key. The
 // chunk's main word is its hop, or points to the chunk's part of the range words: its entries, the
 // merged ranges inside it, of which the last that starts at or below the key has the answer.
+#![tactic(auto)]
+
 pub mod build;
 pub mod chunk;
 pub mod lookup;

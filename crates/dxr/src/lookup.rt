@@ -47,7 +47,7 @@ fn entry_at(part: &[u32], short: bool, i: usize) -> Range
 
 // What a pass over entries finds: whether they keep the rules, how many behind the first start at or
 // below the key, and the start of the last.
-#[derive(Drop)]
+#[derive(Clone, Copy)]
 struct Pass {
     fine: bool,
     below: u32,

@@ -1,6 +1,8 @@
 // The C interface. Every call answers one `Outcome`: refusal 0 and the value, or the refusal's
 // number and its place. A slice is a pointer, then a length in elements. Each export's contract is
 // that of the call under it, through the definition `outcome`; include/hawkmortar.h declares them.
+#![tactic(auto)]
+
 ghost use Rattle.std.specs.Prelude.{◌≡◌};
 ghost use Rattle.hawkmortar.specs.Outcomes.{outcome};
 ghost use Rattle.route.specs.Refusals.{Answer};
@@ -28,7 +30,7 @@ use route::{Counted, Found, Hop, Length, Prefix, Refusal};
 use tcam::download::{From, Next, next_entry};
 
 #[repr(C)]
-#[derive(Drop)]
+#[derive(Clone, Copy)]
 pub struct Outcome {
     pub refusal: u64,
     pub value: u64,

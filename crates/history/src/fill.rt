@@ -13,7 +13,7 @@ use route::{Check, Refusal};
 use tcam::slots::size_check;
 
 // A part's bytes and the stage behind it, or the refusal.
-#[derive(Drop)]
+#[derive(Clone, Copy)]
 pub enum Filled {
     Part(usize, Stage),
     Refused(Refusal),

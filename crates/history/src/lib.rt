@@ -3,6 +3,8 @@
 // A report is printed in parts, into a buffer that the caller lends again and again: `fill` gathers as
 // many lines as fit and answers how far it came, a `Stage`, from which the next call goes on. All parts
 // one after another are the report of specs/Reports, whatever the buffer's length (specs/Whole).
+#![tactic(auto)]
+
 pub mod fill;
 pub mod step;
 pub mod trial;
@@ -17,7 +19,7 @@ use route::Slot;
 pub const MAX_INPUT: usize = 65536;
 
 // How far a report has come: what is printed next.
-#[derive(Drop)]
+#[derive(Clone, Copy)]
 pub enum Stage {
     // That the input is too long.
     TooLong,

@@ -14,7 +14,7 @@ use route::{Prefix, Slot};
 use tcam::slots::Cell;
 
 // The bytes that a step printed, and the stage behind it.
-#[derive(Drop)]
+#[derive(Clone, Copy)]
 pub struct Stepped {
     pub size: usize,
     pub stage: Stage,

@@ -3,6 +3,8 @@
 // `copy_rows` walks the slice and writes its rows, addresses, lengths and hops, one behind the other
 // into an array of the call's own; the calls over rows answer. An array is cleared at every call, so
 // there are four sizes of it, and a short list does not pay for the longest.
+#![tactic(auto)]
+
 ghost use Rattle.std.specs.Prelude.{◌≡◌, ◌*◌, ◌≤◌, length};
 ghost use Rattle.route.specs.Refusals.{refused, size_refusal};
 ghost use Rattle.route.specs.Shown.{counted, shown};
@@ -13,7 +15,7 @@ ghost use Rattle.prefixes.specs.Queries.{three_rows, first, second, third, IsRep
 use route::{Counted, Found, MAX_ROUTES, Prefix, Refusal, list};
 
 // What a query of a list answers: the hop where an address is looked up, else the count of entries.
-#[derive(Drop)]
+#[derive(Clone, Copy)]
 struct Reply {
     count: Counted,
     hop: Found,

@@ -1,4 +1,6 @@
 // Merged ranges: built from a list, and looked up in lent rows.
+#![tactic(auto)]
+
 pub mod build;
 pub mod lookup;
 pub mod sort;

@@ -18,7 +18,7 @@ use std::num::wrapping_add_u32;
 
 // Where a sweep is: how many prefixes are open, the address up to which ranges are made, how many
 // are made.
-#[derive(Drop)]
+#[derive(Clone, Copy)]
 pub struct Progress {
     pub opened: usize,
     pub reached: u32,

@@ -7,7 +7,7 @@ ghost use Rattle.ranges.specs.Shown.{range_of};
 use route::{Hop, Length, OptionalHop, Prefix, order};
 
 // A range: where it starts, and its hop.
-#[derive(Drop)]
+#[derive(Clone, Copy)]
 pub struct Range {
     pub start: u32,
     pub hop: OptionalHop,

@@ -3,6 +3,8 @@
 // Any bytes get an answer: a record with the next place, the end of the input, or a refusal with its
 // number and place. A record's next place lies behind the place that was asked for and within the
 // input (proofs/Places), so a loop from place to place ends.
+#![tactic(auto)]
+
 pub mod numbers;
 pub mod reader;
 
@@ -17,14 +19,14 @@ use numbers::{Number, number_at, small_number_at};
 use route::{Check, Hop, Length, Prefix, Refusal, rule};
 
 // What a record asks for: the set of a prefix with its next hop, or the removal of one.
-#[derive(Drop)]
+#[derive(Clone, Copy)]
 pub enum Record {
     Set(Prefix),
     Remove(u32, Length),
 }
 
 // What stands at a place: a record and the next place, the end of the input, or a refusal.
-#[derive(Drop)]
+#[derive(Clone, Copy)]
 pub enum Step {
     Next(Record, usize),
     End,

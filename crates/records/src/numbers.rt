@@ -9,7 +9,7 @@ ghost use Rattle.records.specs.Shown.{reading_of, rest_of};
 use route::Refusal;
 
 // A number with the place behind it, or the refusal.
-#[derive(Drop)]
+#[derive(Clone, Copy)]
 pub enum Number {
     Value(u32, usize),
     Refused(Refusal),
@@ -17,7 +17,7 @@ pub enum Number {
 
 // What the bytes of a number behind its first say: the number and the place behind it, that it is
 // longer than needed or too large, or the place where the bytes end in it.
-#[derive(Drop)]
+#[derive(Clone, Copy)]
 enum Rest {
     Value(u32, usize),
     Bad,

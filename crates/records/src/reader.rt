@@ -10,7 +10,7 @@ ghost use Rattle.records.specs.Readers.{IsNext, place_after};
 use crate::{Step, record_at};
 
 // The bytes, and a place in them.
-#[derive(Drop)]
+#[derive(Clone, Copy)]
 pub struct Reader<'a> {
     pub src: &'a [u8],
     pub at: usize,

@@ -3,6 +3,8 @@
 //
 // What is printed is worked out by the crate `history`; here it is read and written. A read that fails
 // is no end of the input: nothing is printed then but a message to standard error.
+#![tactic(auto)]
+
 ghost use Rattle.history.specs.Reports.{rows};
 ghost use Rattle.report.specs.Lent.{Holds, Printable};
 
@@ -11,7 +13,7 @@ use history::fill::{Filled, fill};
 use libc::{STDERR_FILENO, STDIN_FILENO, STDOUT_FILENO};
 
 // What was read: so many bytes, now at the front of the buffer, or a read failed.
-#[derive(Drop)]
+#[derive(Clone, Copy)]
 enum Input {
     Bytes(usize),
     Failed,

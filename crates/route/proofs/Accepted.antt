@@ -53,11 +53,10 @@ entry W i earlier r rs e =
       rest = m.1;
     }
 
-all_valid : (W i : ℕ) (earlier rs : List Route) → list_fault W i earlier rs ≡ fine →
-    (r : Route) → r ∈ rs → Valid W r
-all_valid W i earlier rs e r (Memᴰ.head {x} {xs} p) = subst⁻¹ (Valid W) p (entry W i earlier x xs e).valid
-all_valid W i earlier rs e r (Memᴰ.tail {x} {xs} m) =
-    all_valid W (i + 1) (x ∷ earlier) xs (entry W i earlier x xs e).rest r m
+all_valid : (W : ℕ) (r : Route) (i : ℕ) (earlier rs : List Route) → list_fault W i earlier rs ≡ fine → r ∈ rs → Valid W r
+all_valid W r i earlier rs e (Memᴰ.head {x} {xs} p) = subst⁻¹ (Valid W) p (entry W i earlier x xs e).valid
+all_valid W r i earlier rs e (Memᴰ.tail {x} {xs} m) =
+    all_valid W r (i + 1) (x ∷ earlier) xs (entry W i earlier x xs e).rest m
 
 -- a route that does not stand among others has another prefix than each
 fresh_of : (r s : Route) (rs : List Route) → has_prefix r rs ≡ false → s ∈ rs →
@@ -66,19 +65,19 @@ fresh_of r s rs e m a n =
     clash (any-so (same_prefix r) m (both _ _ (eq-eqb r.address s.address a) (eq-eqb r.length s.length n))) e
 
 -- no entry repeats a prefix from before the list
-apart : (W i : ℕ) (earlier rs : List Route) → list_fault W i earlier rs ≡ fine → (r s : Route) →
+apart : (W : ℕ) (r s : Route) (i : ℕ) (earlier rs : List Route) → list_fault W i earlier rs ≡ fine →
     r ∈ rs → s ∈ earlier → r.address ≡ s.address → r.length ≡ s.length → ⊥
-apart W i earlier rs e r s (Memᴰ.head {x} {xs} p) k a n =
+apart W r s i earlier rs e (Memᴰ.head {x} {xs} p) k a n =
     fresh_of x s earlier (entry W i earlier x xs e).fresh k (cc) (cc)
-apart W i earlier rs e r s (Memᴰ.tail {x} {xs} m) k a n =
-    apart W (i + 1) (x ∷ earlier) xs (entry W i earlier x xs e).rest r s m (Memᴰ.tail k) a n
+apart W r s i earlier rs e (Memᴰ.tail {x} {xs} m) k a n =
+    apart W r s (i + 1) (x ∷ earlier) xs (entry W i earlier x xs e).rest m (Memᴰ.tail k) a n
 
 -- nor one from before itself
 all_distinct : (W i : ℕ) (earlier rs : List Route) → list_fault W i earlier rs ≡ fine → Distinct rs
 all_distinct W i earlier [] e = tt
 all_distinct W i earlier (r ∷ rs) e =
     let rest = (entry W i earlier r rs e).rest in (
-      λ s m a n. apart W (i + 1) (r ∷ earlier) rs rest s r m (Memᴰ.head refl) (sym a) (sym n),
+      λ s m a n. apart W s r (i + 1) (r ∷ earlier) rs rest m (Memᴰ.head refl) (sym a) (sym n),
       all_distinct W (i + 1) (r ∷ earlier) rs rest,
     )
 
@@ -139,7 +138,7 @@ rows_of_set W ad ns hs = (to, from)
         record {
           equal = size.equal;
           few = size.few;
-          valid = all_valid W 0 [] rs t.1;
+          valid = λ r. all_valid W r 0 [] rs t.1;
           distinct = all_distinct W 0 [] rs t.1;
         }
 

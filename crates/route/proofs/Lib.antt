@@ -15,7 +15,3 @@ pub mod Searches
 pub mod Fills
 pub mod Notes
 pub mod Entries
--- Steps of a walk by hand.
-pub mod Call
-pub mod PassOn
-pub mod OfValue

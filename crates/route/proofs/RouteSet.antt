@@ -11,11 +11,11 @@ pub record RouteSet (W : ℕ) (rs : List Route) : Type 0 where
   pub valid : (r : Route) → r ∈ rs → Valid W r
   pub once : (r s : Route) → r ∈ rs → s ∈ rs → r.address ≡ s.address → r.length ≡ s.length → r ≡ s
 
-once : (rs : List Route) → Distinct rs → (r s : Route) → r ∈ rs → s ∈ rs → r.address ≡ s.address → r.length ≡ s.length → r ≡ s
-once rs d r s (Memᴰ.head p) (Memᴰ.head q) a n = p ∙ sym q
-once rs d r s (Memᴰ.head {x} p) (Memᴰ.tail k) a n = absurd (d.0 s k (cc) (cc))
-once rs d r s (Memᴰ.tail m) (Memᴰ.head {x} q) a n = absurd (d.0 r m (cc) (cc))
-once rs d r s (Memᴰ.tail {x} {xs} m) (Memᴰ.tail k) a n = once xs d.1 r s m k a n
+once : (r s : Route) (rs : List Route) → Distinct rs → r ∈ rs → s ∈ rs → r.address ≡ s.address → r.length ≡ s.length → r ≡ s
+once r s rs d (Memᴰ.head p) (Memᴰ.head q) a n = p ∙ sym q
+once r s rs d (Memᴰ.head {x} p) (Memᴰ.tail k) a n = absurd (d.0 s k (cc) (cc))
+once r s rs d (Memᴰ.tail m) (Memᴰ.head {x} q) a n = absurd (d.0 r m (cc) (cc))
+once r s rs d (Memᴰ.tail {x} {xs} m) (Memᴰ.tail k) a n = once r s xs d.1 m k a n
 
 pub route_set : (W : ℕ) (rs : List Route) → ((r : Route) → r ∈ rs → Valid W r) → Distinct rs → RouteSet W rs
-route_set W rs v d = record { valid = v; once = once rs d }
+route_set W rs v d = record { valid = v; once = λ r s. once r s rs d }

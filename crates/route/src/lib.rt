@@ -7,6 +7,8 @@
 //
 // Where no prefix matches there is no next hop. That is a case, `Found::Nothing`, and never a hop. A
 // range and a main word hold a number all the same, an `OptionalHop`.
+#![tactic(auto)]
+
 pub mod filter;
 pub mod list;
 pub mod order;
@@ -24,25 +26,25 @@ pub const MAX_HOP: u32 = 65535;
 
 // The length of a prefix in bits.
 #[repr(C)]
-#[derive(Drop)]
+#[derive(Clone, Copy)]
 pub struct Length(pub u32);
 
 // A next hop.
 #[repr(C)]
-#[derive(Drop)]
+#[derive(Clone, Copy)]
 pub struct Hop(pub u32);
 
 // A next hop or none, as a range or a main word holds it: 0 is none.
-#[derive(Drop)]
+#[derive(Clone, Copy)]
 pub struct OptionalHop(pub u32);
 
 // A slot's place in a table.
-#[derive(Drop)]
+#[derive(Clone, Copy)]
 pub struct Slot(pub usize);
 
 // A prefix with its next hop.
 #[repr(C)]
-#[derive(Drop)]
+#[derive(Clone, Copy)]
 pub struct Prefix {
     pub address: u32,
     pub length: Length,
@@ -51,7 +53,7 @@ pub struct Prefix {
 
 // Why a call is refused: a case for each number of the table in docs/SPECIFICATION.md, with the
 // place where the fault has one.
-#[derive(Drop)]
+#[derive(Clone, Copy)]
 pub enum Refusal {
     Length(usize),
     Address(usize),
@@ -69,21 +71,21 @@ pub enum Refusal {
 }
 
 // What a test finds.
-#[derive(Drop)]
+#[derive(Clone, Copy)]
 pub enum Check {
     Fine,
     Fault(Refusal),
 }
 
 // A number of things that were tested or made, or the refusal.
-#[derive(Drop)]
+#[derive(Clone, Copy)]
 pub enum Counted {
     Count(usize),
     Refused(Refusal),
 }
 
 // What a lookup finds.
-#[derive(Drop)]
+#[derive(Clone, Copy)]
 pub enum Found {
     Nothing,
     Via(Hop),

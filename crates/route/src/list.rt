@@ -21,7 +21,7 @@ use crate::{Check, Counted, Found, Hop, Length, MAX_ROUTES, Prefix, Refusal, fil
 const SHORT: usize = 8;
 
 // The longest match so far.
-#[derive(Drop)]
+#[derive(Clone, Copy)]
 enum Best {
     Nowhere,
     At(Prefix),

@@ -14,7 +14,7 @@ use crate::slots::{Cell, size_check};
 use route::{Check, Counted, Refusal, Slot};
 
 // One write: what a slot is to hold.
-#[derive(Drop)]
+#[derive(Clone, Copy)]
 pub struct Write {
     pub slot: Slot,
     pub cell: Cell,

@@ -22,14 +22,14 @@ use route::rule::prefix_check;
 use route::{Check, Length, Refusal, Slot};
 
 // What a call asks from: the start, or past the prefix given last.
-#[derive(Drop)]
+#[derive(Clone, Copy)]
 pub enum From {
     Start,
     Past(u32, Length),
 }
 
 // What a call answers.
-#[derive(Drop)]
+#[derive(Clone, Copy)]
 pub enum Next {
     Entry(Cell),
     End,

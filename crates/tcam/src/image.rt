@@ -24,7 +24,7 @@ const BLOCK: usize = 64;
 // What stands before a slot, as far as S2 to S5 ask: the nearest entry's length, whether a slot is
 // free, whether an entry is below the pool, and where the run of the nearest length that ends just
 // before the slot begins; at the slot itself where there is none.
-#[derive(Drop)]
+#[derive(Clone, Copy)]
 pub struct Seen {
     pub nearest: Length,
     pub free: bool,
@@ -221,7 +221,7 @@ fn free_end(addresses: &[u32], tags: &[u32], from: Slot) -> Slot
 }
 
 // What was seen of the slots before a slot, and that slot.
-#[derive(Drop)]
+#[derive(Clone, Copy)]
 pub struct Passed {
     pub seen: Seen,
     pub next: Slot,

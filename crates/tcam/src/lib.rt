@@ -4,6 +4,8 @@
 // S1 to S5 and what each call answers are in specs/. A lookup asks for S1 alone, and so does a
 // download, so they are right on every image between two writes of a plan; an update tests the whole
 // image first, and refuses such an image until it is mended.
+#![tactic(auto)]
+
 pub mod apply;
 pub mod download;
 pub mod image;

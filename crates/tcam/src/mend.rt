@@ -23,7 +23,7 @@ use crate::slots::{Cell, cell_at, size_check};
 use route::{Check, Counted, Refusal, Slot, filter};
 
 // What the repeats of a table come to: the slot of the later copy, if there is one, or a refusal.
-#[derive(Drop)]
+#[derive(Clone, Copy)]
 pub enum Repeat {
     Found(Place),
     Refused(Refusal),
@@ -31,7 +31,7 @@ pub enum Repeat {
 
 // The same of the slots before a slot, as a pass keeps it: whether one repeats a prefix, and the first
 // that does; whether one is refused for that, and the first that is.
-#[derive(Drop)]
+#[derive(Clone, Copy)]
 pub struct Repeats {
     pub found: bool,
     pub later: Slot,

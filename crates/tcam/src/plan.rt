@@ -22,7 +22,7 @@ use route::rule::{entry_check, prefix_check};
 use route::{Check, Counted, Hop, Length, Prefix, Refusal, Slot};
 
 // A slot that was sought.
-#[derive(Drop)]
+#[derive(Clone, Copy)]
 pub enum Place {
     Nowhere,
     At(Slot),
@@ -51,7 +51,7 @@ impl Place {
 }
 
 // Lengths in turn: `count` of them from `from` on, rising, or else falling.
-#[derive(Drop)]
+#[derive(Clone, Copy)]
 pub struct Lengths {
     pub up: bool,
     pub count: u32,

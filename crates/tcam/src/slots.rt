@@ -13,7 +13,7 @@ use route::{Check, Hop, Length, Prefix, Refusal, Slot};
 
 // The slots of one group: the entries of one length, or the pool's free slots. A row of edge slots
 // has a number for each group, the lengths 0 to 32 and then the pool.
-#[derive(Drop)]
+#[derive(Clone, Copy)]
 pub struct Group(pub usize);
 
 impl Group {
@@ -31,7 +31,7 @@ impl Group {
 }
 
 // What a slot holds: an address, and a tag of a length and a hop.
-#[derive(Drop)]
+#[derive(Clone, Copy)]
 pub struct Cell {
     pub address: u32,
     pub tag: u32,

@@ -1,16 +1,11 @@
 -- A number masked by another is no greater.
-use borrow.Author.Rules.{rules}
 use native.Mathlib.Omega.{arith}
 use mathlib.Core.Path.{refl}
 use Prim.Native.Nat.{◌-◌, ◌/◌, ◌^◌}
 use lib.Bits.{and_le_r}
 use Rattle.route.specs.Filter.{word_in}
-use Rattle.route.proofs.filter.word_in.Statement.{statement}
-use Rattle.route.proofs.filter.word_in.Tie as tie
+use Rattle.route.proofs.filter.word_in.Goals as goal
 
-returns : tie.Need-returns
+pub returns : goal.returns
 unfolding word_in
 returns c = (refl, omega (arith, and_le_r (c.args.h / 2 ^ 20) (c.args.words - 1)))
-
-pub word-in-spec : {M : Type 1} → statement M
-word-in-spec = tie.close (tie.spec (λ c. search rules) returns)
