@@ -21,25 +21,25 @@ class: lib
 	cd rust && cargo run --offline --release --quiet --example class
 
 lib:
-	rt staticlib hawkmortar
+	@scripts/build library
 
 records: lib
 	cd rust && cargo build --offline --release --quiet -p hawkmortar --bin records
 
 bench: lib
-	rt check report
+	@scripts/build program
 	cd rust && cargo build --offline --release --quiet -p bench && target/release/bench
 
 fuzz: lib
 	@scripts/fuzz
 
 memcheck: lib
-	rt check report
+	@scripts/build program
 	@scripts/memcheck
 
 sanitize: lib
 	@scripts/sanitize
 
 fmt:
-	rt fmt
+	@for crate in crates/*; do (cd "$$crate" && rt fmt) || exit 1; done
 	cd rust && cargo fmt

@@ -1,4 +1,4 @@
-//! Finds `libhawkmortar.a`, which `rt staticlib hawkmortar` writes to the repository's target/staticlib.
+//! Finds `libhawkmortar.a`, which `make lib` writes to the repository's target/staticlib.
 //! `HAWKMORTAR_LIB_DIR` names another folder.
 
 use std::path::PathBuf;

@@ -12,7 +12,7 @@ pub fn report() -> PathBuf {
     };
     assert!(
         file.is_file(),
-        "{} is missing: run `make report` or `rt check report` in the repository",
+        "{} is missing: run `make report` or `scripts/build program` in the repository",
         file.display()
     );
     file
