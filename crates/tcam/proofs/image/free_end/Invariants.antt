@@ -1,0 +1,12 @@
+-- Block by block: the slots before slot j are free. The measure is what is left of the row.
+use Rattle.std.proofs.Common.{◌-◌, false, length, sym, ◌∙◌, rules}
+use Rattle.tcam.specs.Loops.{cell_at, is_used}
+use Rattle.route.proofs.Searches.{FoundFrom, from_start, from_block}
+use Rattle.tcam.proofs.Images.{free-none, free-further}
+use Rattle.tcam.proofs.image.free_end.Given as goal
+
+abbrev pub invariant-loop-j : goal.invariant-loop-j
+invariant-loop-j l = FoundFrom is_used (cell_at l.addresses l.tags) l.initial.j (length l.addresses) l.j false
+
+abbrev pub decreases-loop-j : goal.decreases-loop-j
+decreases-loop-j l = l.end - l.j
