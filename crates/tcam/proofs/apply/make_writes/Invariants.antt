@@ -1,6 +1,6 @@
 -- Write by write: those before write i stand in both rows. The measure is what is left up to write k.
-use Rattle.std.proofs.Common.{◌-◌, ◌<◌, length, arith, rules}
-use Rattle.tcam.proofs.Writes.{MadeWrites, made-start, made-slot, made-turn, made-end}
+use Rattle.std.proofs.Common.{◌-◌}
+use Rattle.tcam.proofs.Writes.{MadeWrites}
 use Rattle.tcam.proofs.apply.make_writes.Given as goal
 
 abbrev pub invariant-loop-i : goal.invariant-loop-i

@@ -1,6 +1,6 @@
 -- Write by write: those before write i can be made. The measure is what is left up to write k.
-use Rattle.std.proofs.Common.{◌-◌, sym, ◌∙◌, rules}
-use Rattle.tcam.proofs.Writes.{CheckedWrites, checked-start, checked-stop, checked-turn, checked-end}
+use Rattle.std.proofs.Common.{◌-◌}
+use Rattle.tcam.proofs.Writes.{CheckedWrites}
 use Rattle.tcam.proofs.apply.writes_check.Given as goal
 
 abbrev pub invariant-loop-i : goal.invariant-loop-i

@@ -1,12 +1,8 @@
 -- Slot by slot: those before slot i keep S1, and the entry kept of them gives the answer with those left. The measure is what is left.
-use Rattle.std.proofs.Common.{◌≡◌, ◌-◌, ◌<◌, true, ◌≢◌, length, sym, refl, ap, ◌∙◌, arith, rules}
-use mathlib.Core.Option.{some}
-use borrow.Author.Tests.{not-true, not-false}
-use Rattle.tcam.specs.Slots.{keeps_s1}
-use Rattle.tcam.specs.Download.{From, entry_or_end}
-use Rattle.tcam.specs.Shown.{cell_of}
+use Rattle.std.proofs.Common.{◌-◌, ◌<◌, ◌≢◌, length}
+use Rattle.tcam.specs.Download.{From}
 use Rattle.tcam.specs.Loops.{far_ahead, IsLeast}
-use Rattle.tcam.proofs.DownloadPass.{PassAt, pass-start, pass-stop, pass-free, pass_kept, pass-turn, pass-none, pass-some}
+use Rattle.tcam.proofs.DownloadPass.{PassAt}
 use Rattle.tcam.proofs.download.next_in.Given as goal
 
 -- the slot kept is one of the row; and the pass, whatever the least key is of

@@ -1,9 +1,7 @@
 -- Slot by slot: those before slot j are free. The measure is what is left of the row.
-use Rattle.std.proofs.Common.{◌-◌, false, not, length, sym, ap, ◌∙◌, rules}
-use borrow.Author.Tests.{not-true}
+use Rattle.std.proofs.Common.{◌-◌, false, length}
 use Rattle.tcam.specs.Loops.{cell_at, is_used}
-use Rattle.route.proofs.Searches.{FoundFrom, from_start, from-turn}
-use Rattle.tcam.proofs.Images.{free-stop, free-none}
+use Rattle.route.proofs.Searches.{FoundFrom}
 use Rattle.tcam.proofs.image.first_used.Given as goal
 
 abbrev pub invariant-loop-j : goal.invariant-loop-j

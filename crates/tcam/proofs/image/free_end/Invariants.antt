@@ -1,8 +1,7 @@
 -- Block by block: the slots before slot j are free. The measure is what is left of the row.
-use Rattle.std.proofs.Common.{◌-◌, false, length, sym, ◌∙◌, rules}
+use Rattle.std.proofs.Common.{◌-◌, false, length}
 use Rattle.tcam.specs.Loops.{cell_at, is_used}
-use Rattle.route.proofs.Searches.{FoundFrom, from_start, from_block}
-use Rattle.tcam.proofs.Images.{free-none, free-further}
+use Rattle.route.proofs.Searches.{FoundFrom}
 use Rattle.tcam.proofs.image.free_end.Given as goal
 
 abbrev pub invariant-loop-j : goal.invariant-loop-j

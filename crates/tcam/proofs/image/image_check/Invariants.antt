@@ -1,12 +1,9 @@
 -- Slot by slot, and over free slots at once: those before slot i break no rule, what was seen of them is kept, and the filter has their
 -- prefixes. The measure is what is left of the row.
-use Rattle.std.proofs.Common.{◌≡◌, ◌+◌, ◌-◌, length, sym, refl, ◌∙◌, rules}
+use Rattle.std.proofs.Common.{◌≡◌, ◌-◌, length}
 use Rattle.tcam.specs.Slots.{breaks}
 use Rattle.tcam.specs.Loops.{cell_at, TestedBefore}
-use Rattle.route.proofs.Notes.{noted-start}
-use Rattle.tcam.proofs.SeenBefore.{breaks-free, unbroken-placed}
-use Rattle.tcam.proofs.Tested.{tested-none}
-use Rattle.tcam.proofs.Images.{FaultBefore, CellsNoted, fault-start, fault-stop, fault_past, fault-end, cells-new, cells-noted, cells-passed}
+use Rattle.tcam.proofs.Images.{FaultBefore, CellsNoted}
 use Rattle.tcam.proofs.image.image_check.Given as goal
 
 abbrev pub invariant-loop-i : goal.invariant-loop-i

@@ -1,7 +1,7 @@
 -- `found` says whether a slot of the block before slot j holds the address. The measure is what is left up to the block's end.
-use Rattle.std.proofs.Common.{◌-◌, refl, rules}
+use Rattle.std.proofs.Common.{◌-◌}
 use Rattle.tcam.specs.Loops.{address_at, is_address}
-use Rattle.route.proofs.Searches.{FoundFrom, from_start, from-turn, from_end}
+use Rattle.route.proofs.Searches.{FoundFrom}
 use Rattle.tcam.proofs.image.stands_among.Given as goal
 
 abbrev pub invariant-loop-j : goal.invariant-loop-j

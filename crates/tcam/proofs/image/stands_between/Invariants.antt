@@ -1,7 +1,7 @@
 -- Block by block: no slot from slot `from` up to slot j holds the address. The measure is what is left up to slot `to`.
-use Rattle.std.proofs.Common.{◌-◌, false, sym, ◌∙◌, rules}
+use Rattle.std.proofs.Common.{◌-◌, false}
 use Rattle.tcam.specs.Loops.{address_at, is_address}
-use Rattle.route.proofs.Searches.{FoundFrom, from_start, from_block, from-hit, from_end}
+use Rattle.route.proofs.Searches.{FoundFrom}
 use Rattle.tcam.proofs.image.stands_between.Given as goal
 
 abbrev pub invariant-loop-j : goal.invariant-loop-j

@@ -1,6 +1,6 @@
 -- `used` counts the used slots from slot `from` up to slot j. The measure is what is left up to slot `to`.
-use Rattle.std.proofs.Common.{◌-◌, rules}
-use Rattle.tcam.proofs.Images.{UsedFrom, used_start, used_turn, used-end}
+use Rattle.std.proofs.Common.{◌-◌}
+use Rattle.tcam.proofs.Images.{UsedFrom}
 use Rattle.tcam.proofs.image.used_between.Given as goal
 
 abbrev pub invariant-loop-j : goal.invariant-loop-j

@@ -1,6 +1,6 @@
 -- Part by part: `used` counts the used slots before slot i. The measure is what is left of the shorter row.
-use Rattle.std.proofs.Common.{◌-◌, rules}
-use Rattle.tcam.proofs.Images.{UsedBefore, used-none, used-pass, used_all}
+use Rattle.std.proofs.Common.{◌-◌}
+use Rattle.tcam.proofs.Images.{UsedBefore}
 use Rattle.tcam.proofs.image.used_slots.Given as goal
 
 abbrev pub invariant-loop-i : goal.invariant-loop-i

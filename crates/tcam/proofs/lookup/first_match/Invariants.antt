@@ -1,9 +1,6 @@
 -- Slot by slot: those before slot i keep S1 and do not match. The measure is what is left of the row.
-use Rattle.std.proofs.Common.{◌≡◌, ◌-◌, true, length, sym, refl, ◌∙◌, rules}
-use borrow.Author.Tests.{not-true, not-false}
-use Rattle.tcam.specs.Slots.{keeps_s1, hits}
-use Rattle.tcam.specs.Shown.{cell_of}
-use Rattle.tcam.proofs.Scans.{PassedBefore, passed-stop, passed-hit, passed-turn, passed-end, hits-hop}
+use Rattle.std.proofs.Common.{◌-◌, length}
+use Rattle.tcam.proofs.Scans.{PassedBefore}
 use Rattle.tcam.proofs.lookup.first_match.Given as goal
 
 abbrev pub invariant-loop-i : goal.invariant-loop-i

@@ -1,7 +1,6 @@
 -- Slot by slot: those up to slot i keep S1. The measure is what is left of the row.
-use Rattle.std.proofs.Common.{◌-◌, length, sym, refl, ◌∙◌, rules}
-use borrow.Author.Tests.{not-true, not-false}
-use Rattle.tcam.proofs.Scans.{KeptBefore, kept-stop, kept-turn, kept-end}
+use Rattle.std.proofs.Common.{◌-◌, length}
+use Rattle.tcam.proofs.Scans.{KeptBefore}
 use Rattle.tcam.proofs.lookup.rest_check.Given as goal
 
 abbrev pub invariant-loop-i : goal.invariant-loop-i

@@ -1,9 +1,9 @@
 -- `found` says whether a slot before slot j has the prefix with another tag. The measure is what is left up to the last slot.
-use Rattle.std.proofs.Common.{◌-◌, rules}
+use Rattle.std.proofs.Common.{◌-◌}
 use Rattle.tcam.specs.Mend.{other_tag_in}
 use Rattle.tcam.specs.Shown.{cell_of}
 use Rattle.tcam.specs.Loops.{cell_at}
-use Rattle.route.proofs.Searches.{FoundFrom, from_start, from-turn, from_end}
+use Rattle.route.proofs.Searches.{FoundFrom}
 use Rattle.tcam.proofs.mend.other_tag_between.Given as goal
 
 abbrev pub invariant-loop-j : goal.invariant-loop-j

@@ -17,8 +17,7 @@ take_out-requires c =
     let cs = cells a.addresses.now a.tags.now in
     let t : Sized (length a.addresses.now) (length a.tags.now) = sized _ _ (sym (ap verdict_of c.in_default.is) ∙ c.size_check-size.ensures) in
     let found : (fine ≡ (order_fault 32 0 [] cs then repeat_fault 0 false [] cs)) × (place_of c.in-Found.later ≡ repeat_slot 0 [] cs) =
-    rw c.in-Found.is at c.later_copy.ensures in
-    (
+    rw c.in-Found.is at c.later_copy.ensures in (
       record { equal = t.equal; few = t.few; keeps = order_keeps_s1 32 0 0 [] cs (in_turn (order_fault 32 0 [] cs) _ (sym found.0)).0 },
       rw found.1 (repeat-entry a.addresses.now a.tags.now t.equal),
     )

@@ -1,7 +1,6 @@
 -- So many moves were counted, and the lengths that are left give the rest. The measure is how many lengths are left.
-use Rattle.std.proofs.Common.{rules}
 use Rattle.tcam.specs.Loops.{slot_in}
-use Rattle.tcam.proofs.Chains.{CountedMoves, moves-turn, moves-end}
+use Rattle.tcam.proofs.Chains.{CountedMoves}
 use Rattle.tcam.proofs.plan.count_moves.Given as goal
 
 abbrev pub invariant-loop-left : goal.invariant-loop-left

@@ -1,8 +1,8 @@
 -- Slot by slot: none before slot i holds the prefix. The measure is what is left of the row.
-use Rattle.std.proofs.Common.{◌-◌, sym, refl, ◌∙◌, rules}
+use Rattle.std.proofs.Common.{◌-◌}
 use lib.ListN
 use Rattle.tcam.specs.Plans.{of_prefix}
-use Rattle.tcam.proofs.Edges.{NoneFound, found-stop, found_turn, found-end}
+use Rattle.tcam.proofs.Edges.{NoneFound}
 use Rattle.tcam.proofs.plan.find.Given as goal
 
 abbrev pub invariant-loop-i : goal.invariant-loop-i

@@ -1,5 +1,4 @@
 -- The slot's group has a number in the row, which is then the slot's.
-use Rattle.std.proofs.Common.{rules}
 use Rattle.tcam.proofs.Edges.{edges-start, edges-turn, edges-end, group-below}
 use Rattle.tcam.proofs.plan.find_edges.Goals as goal
 

@@ -1,6 +1,6 @@
 -- The row has, for each group, the last slot found among the k visited ones. The measure is what is left to visit.
-use Rattle.std.proofs.Common.{◌-◌, ◌<◌, length, arith, rules}
-use Rattle.tcam.proofs.Edges.{EdgesAmong, edges-start, edges-turn, edges-end, group-below}
+use Rattle.std.proofs.Common.{◌-◌, length}
+use Rattle.tcam.proofs.Edges.{EdgesAmong}
 use Rattle.tcam.proofs.plan.find_edges.Given as goal
 
 abbrev pub invariant-loop-k : goal.invariant-loop-k

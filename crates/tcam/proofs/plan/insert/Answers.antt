@@ -15,8 +15,7 @@ returns-in_default c =
 pub plan_chain-requires-clause-addresses_len : goal.plan_chain-requires-clause-addresses_len
 plan_chain-requires-clause-addresses_len c =
     let a = c.args in
-    let t = c.requires.0 in
-    (
+    let t = c.requires.0 in (
       t.equal,
       t.few,
       edge-bound (leb 16 a.n.0) is_free a.addresses.now a.tags.now t.equal _

@@ -11,8 +11,7 @@ use Rattle.tcam.proofs.plan.plan_remove.Goals as goal
 pub erase-requires : goal.erase-requires
 erase-requires c =
     let a = c.args in
-    let rows = table-rows (tested 32 _ _ (sym (ap verdict_of c.in_default.is) ∙ c.table_check-table.ensures)) in
-    (
+    let rows = table-rows (tested 32 _ _ (sym (ap verdict_of c.in_default.is) ∙ c.table_check-table.ensures)) in (
       rows,
       (prefix-good 32 0 a.address a.length.0 (sym c.prefix_check-prefix.ensures ∙ ap verdict_of c.in_default-prefix.is)).0,
       edge-bound true (of_prefix a.address a.length.0) a.addresses.now a.tags.now rows.equal _ (sym (ap place_of c.in-At.is) ∙ c.find-place.ensures),

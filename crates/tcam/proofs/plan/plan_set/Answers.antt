@@ -15,8 +15,7 @@ use Rattle.tcam.proofs.plan.plan_set.Goals as goal
 pub insert-requires : goal.insert-requires
 insert-requires c =
     let a = c.args in
-    let good = in_turn (prefix_fault 32 0 a.address a.length.0) _ (sym c.entry_check-entry.ensures ∙ ap verdict_of c.in_default-entry.is) in
-    (
+    let good = in_turn (prefix_fault 32 0 a.address a.length.0) _ (sym c.entry_check-entry.ensures ∙ ap verdict_of c.in_default-entry.is) in (
       table-rows (tested 32 _ _ (sym (ap verdict_of c.in_default.is) ∙ c.table_check-table.ensures)),
       (prefix-good 32 0 a.address a.length.0 good.0).0,
     )

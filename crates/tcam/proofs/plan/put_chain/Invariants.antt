@@ -1,9 +1,8 @@
 -- The writes before write w are in the plan, and what is left gives the rest. The measure is how many lengths are left.
-use Rattle.std.proofs.Common.{◌+◌, ◌*◌, ◌<◌, ◌≤◌, length, refl, ap, arith, rules}
 use Rattle.tcam.specs.Slots.{cells}
-use Rattle.tcam.specs.Shown.{cell_of, place_of}
+use Rattle.tcam.specs.Shown.{cell_of}
 use Rattle.tcam.specs.Loops.{chain_of}
-use Rattle.tcam.proofs.Chains.{ChainPut, chain-skip, chain-slot, chain-room, chain-turn, chain-last, chain-end}
+use Rattle.tcam.proofs.Chains.{ChainPut}
 use Rattle.tcam.proofs.plan.put_chain.Given as goal
 
 abbrev pub invariant-loop-left : goal.invariant-loop-left
