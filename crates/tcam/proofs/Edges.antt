@@ -156,10 +156,10 @@ module _ {W : ℕ} {up : Bool} {ad ts row : List ℕ} {k : ℕ} (h : EdgesAmong 
   pub edges-end : length ad ≤ k → EdgesOf W up (cells ad ts) row
   edges-end l = record {
     size = h.size;
-    of = λ m i. at-end m (omega arith) ∙ latest-agree up _ (of_length m) (cell_at ad ts) (length ad) (length ad) (omega arith) (λ j b. group-length W m (cell_at ad ts j) i)
+    of = λ m i. at-end m (omega arith) ∙ latest-agree up (λ c. eqb (group_of W c) m) (of_length m) (cell_at ad ts) (length ad) (length ad) (omega arith) (λ j b. group-length W m (cell_at ad ts j) i)
         ∙ latest-edge (of_length m) ad ts h.equal up;
     pool = at-end (W + 1) (omega arith)
-        ∙ latest-agree up _ is_free (cell_at ad ts) (length ad) (length ad) (omega arith) (λ j b. group-free W (cell_at ad ts j) (keeps-at W ad ts h.equal j h.keeps b))
+        ∙ latest-agree up (λ c. eqb (group_of W c) (W + 1)) is_free (cell_at ad ts) (length ad) (length ad) (omega arith) (λ j b. group-free W (cell_at ad ts j) (keeps-at W ad ts h.equal j h.keeps b))
         ∙ latest-edge is_free ad ts h.equal up;
   }
     where

@@ -46,7 +46,8 @@ with-entry {at} {i} r l u h = rw add-one (record {
       let z : suc i - r ≡ suc (i - r) = omega arith in
       let y : r + (i - r) ≡ i = omega arith in
       let f = eqb-true m (length_in (at i)) e in
-      rw (e, z, y, u, eq-eqb (length_in (at i)) m (sym f), f, h))
+      let g : run_of m (before at i) ≡ places_from at r (i - r) = ap (λ (n : ℕ). run_of n (before at i)) f ∙ h in
+      rw (e, z, y, u, eq-eqb (length_in (at i)) m (sym f), g))
       (λ e. rw (e, u, ne_eqb (length_in (at i)) m (λ x. eqb-false m (length_in (at i)) e (sym x))));
 })
 
