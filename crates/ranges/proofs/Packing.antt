@@ -1,6 +1,6 @@
 -- Words say what they were made from, and keys rise as their routes are in order. So the sweep over a list's sorted keys makes its
 -- merged ranges.
-use Rattle.std.proofs.Common.{◌≡◌, ℕ, ◌+◌, ◌-◌, ◌*◌, ◌/◌, ◌%◌, ◌<◌, ◌≤◌, List, [], ◌∷◌, length, get_or, sym, ap, ◌∙◌, subst, ap₂, arith, le-ltb}
+use Rattle.std.proofs.Common.{◌≡◌, ℕ, ◌+◌, ◌*◌, ◌/◌, ◌%◌, ◌<◌, ◌≤◌, List, [], ◌∷◌, length, get_or, sym, ap, ◌∙◌, subst, ap₂, arith, le-ltb}
 use mathlib.Core.List.Memᴰ
 use Rattle.route.specs.Rule.{Route}
 use Rattle.route.specs.PrefixOrder
