@@ -96,13 +96,13 @@ default_end : (W : ℕ) (r : Route) → r.length ≡ 0 → r.address ≡ 0 → p
 default_end W r e z = rw (e, z, sub-zero, zero-add) (mod_self (2 ^ W))
 
 -- with length 0 among them, two fewer
-pub boundaries_fewer : (W : ℕ) (rs : List Route) (r : Route) → r ∈ rs → Valid W r → r.length ≡ 0 →
+pub boundaries_fewer : (W : ℕ) (r : Route) (rs : List Route) → r ∈ rs → Valid W r → r.length ≡ 0 →
     r.address < 2 ^ W → length (boundaries W rs) + 2 ≤ 2 * length rs
-boundaries_fewer W rs r (Memᴰ.head {x} {xs} p) v e top =
+boundaries_fewer W r rs (Memᴰ.head {x} {xs} p) v e top =
     let z = default_start W x (subst (Valid W) p v) (cc) (rw p at top) in
     omega (arith, boundaries_few W xs, unchanged (end_adds W x xs) (default_end W x (cc) z), unchanged (start_adds W x xs) z)
-boundaries_fewer W rs r (Memᴰ.tail {x} {xs} m) v e top =
-    omega (arith, boundaries_fewer W xs r m v e top, grows (end_adds W x xs), grows (start_adds W x xs))
+boundaries_fewer W r rs (Memᴰ.tail {x} {xs} m) v e top =
+    omega (arith, boundaries_fewer W r xs m v e top, grows (end_adds W x xs), grows (start_adds W x xs))
 
 -- two addresses that no boundary separates have one longest match
 pub steady : (W : ℕ) (rs : List Route) (p q : ℕ) → ((r : Route) → r ∈ rs → Valid W r) → p ≤ q → q < 2 ^ W →

@@ -1,4 +1,4 @@
--- Where prefixes start and end, rows of ranges, the merged ranges of a set, and the ranges' part of demand 2.
+-- Where prefixes start and end, rows of ranges, the merged ranges of a set: they say its answer, and a lookup in them finds it.
 pub mod Spans
 pub mod Boundaries
 pub mod Says

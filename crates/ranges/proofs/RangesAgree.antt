@@ -34,7 +34,7 @@ module _ (W : ℕ) (rs : List Route) where
 
   pub ranges_fewer : (r : Route) → r ∈ rs → Valid W r → r.length ≡ 0 → r.address < 2 ^ W → length (ranges_of W rs) ≤ 2 * length rs - 1
   ranges_fewer r m v e top =
-      let two = boundaries_fewer W rs r m v e top in
+      let two = boundaries_fewer W r rs m v e top in
       omega (arith, merged_few (answer W rs) (answer W rs 0) (boundaries W rs))
 
 module _ (W : ℕ) (rs : List Route) (valid : (r : Route) → r ∈ rs → Valid W r) (placed : Placed W rs) where

@@ -1,18 +1,14 @@
--- The sweep's steps over keys and words: a range joined, an address advanced to, a key opened.
-use Rattle.std.proofs.Common.{◌≡◌, ℕ, zero, suc, ◌+◌, ◌-◌, ◌%◌, ◌<◌, ◌≤◌, true, false, eqb, List, [], ◌∷◌, ◌++◌, length, get_or, take, set, refl, ap, ◌∙◌, ap₂, mod-lt, add-one, arith, get_or-set_other, take-suc, get_or-set_same, take-suc-set, le-ltb, lt-ltb}
+-- The sweep over keys and words: the last of the ranges made, the prefix opened last, a key opened.
+use Rattle.std.proofs.Common.{◌≡◌, ℕ, zero, suc, ◌+◌, ◌-◌, ◌%◌, ◌<◌, ◌≤◌, eqb, List, [], ◌∷◌, ◌++◌, length, get_or, take, set, refl, ap, ◌∙◌, ap₂, add-one, arith, get_or-set_other, take-suc, get_or-set_same}
 use mathlib.Core.List.{map-append}
 use Rattle.route.specs.Loops.{before}
 use Rattle.ranges.specs.Ranges.{Range}
-use Rattle.ranges.specs.Words.{route_in, word_of, range_in, ranges_in, key_at}
-use Rattle.ranges.specs.Sweeps.{Sweep, sweep, last_of, ends_with, joined, open_hop, extended, advanced}
-use Rattle.ranges.proofs.Packing.{word_says}
+use Rattle.ranges.specs.Words.{route_in, range_in, ranges_in, key_at}
+use Rattle.ranges.specs.Sweeps.{last_of, ends_with}
 
 -- the ranges of some words, the last of them by itself
 pub ranges_in-last : (n : ℕ) (ws : List ℕ) → n < length ws → ranges_in (suc n) ws ≡ ranges_in n ws ++ (range_in (get_or ws n 0) ∷ [])
 ranges_in-last n ws l = rw (take-suc ws n 0 l) (map-append range_in (take n ws) (get_or ws n 0 ∷ []))
-
-pub ranges_in-set : (n : ℕ) (ws : List ℕ) (w : ℕ) → n < length ws → ranges_in (suc n) (set ws n w) ≡ ranges_in n ws ++ (range_in w ∷ [])
-ranges_in-set n ws w l = rw (take-suc-set ws n w l) (map-append range_in (take n ws) (w ∷ []))
 
 last_of-last : (h : ℕ) (rs : List Range) (r : Range) → last_of h (rs ++ (r ∷ [])) ≡ r.hop
 last_of-last h [] r = refl
@@ -31,27 +27,6 @@ ends_with-word n ws h pos l =
 -- what stands before a place, the nearest by itself
 pub before_last : {A : Type 0} (at : ℕ → A) (n : ℕ) → 0 < n → before at n ≡ at (n - 1) ∷ before at (n - 1)
 before_last at n pos = ap (before at) (let e : n ≡ suc (n - 1) = omega arith in e)
-
--- one range more, in its place behind the others
-pub join-new : (n : ℕ) (ws : List ℕ) (r : Range) → n < length ws → r.start < 4294967296 → r.hop < 65536 →
-    ends_with (ranges_in n ws) r.hop ≡ false → ranges_in (n + 1) (set ws n (word_of r)) ≡ joined (ranges_in n ws) r
-join-new n ws r l s h e = rw (e, add-one n, ranges_in-set n ws (word_of r) l, word_says r s h)
-
-pub join-same : (t : List Range) (r : Range) → ends_with t r.hop ≡ true → t ≡ joined t r
-join-same t r e = rw e
-
--- a key's hop is below 65,536
-pub open_hop-small : (ks : List ℕ) (n : ℕ) → open_hop (before (key_at ks) n) < 65536
-open_hop-small ks zero = omega arith
-open_hop-small ks (suc n) = mod-lt (get_or ks n 0) (omega arith)
-
--- on to x, without and with a range
-module _ (x : ℕ) (s : Sweep) where
-  pub advance-none : x ≤ s.reached → s ≡ advanced x s
-  advance-none l = rw (le-ltb s.reached x l)
-
-  pub advance-some : s.reached < x → sweep s.opened x (extended s) ≡ advanced x s
-  advance-some l = rw (lt-ltb s.reached x l)
 
 -- a key stored behind those that are open is opened; the keys behind it are as they were
 module _ (ks : List ℕ) (n k : ℕ) where

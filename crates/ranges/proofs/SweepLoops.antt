@@ -1,5 +1,5 @@
 -- The sweep's loops, over keys and words: what is still open, and the keys that are left, give what the whole gives.
-use Rattle.std.proofs.Common.{◌≡◌, ℕ, ◌+◌, ◌-◌, ◌*◌, ◌<◌, ◌≤◌, true, false, List, [], ◌∷◌, length, drop, set, ap, ◌∙◌, add-one, arith, drop_of_length-le, drop-cons}
+use Rattle.std.proofs.Common.{◌≡◌, ℕ, ◌+◌, ◌-◌, ◌*◌, ◌<◌, ◌≤◌, true, List, [], ◌∷◌, length, drop, set, ap, ◌∙◌, arith}
 use Rattle.route.specs.Rule.{Route}
 use Rattle.route.specs.Loops.{before}
 use Rattle.ranges.specs.Ranges.{Range, past_end}
@@ -10,9 +10,6 @@ use Rattle.ranges.specs.declared.sweep.Progress.{Progress}
 use Rattle.ranges.proofs.Steps.{before_last, before-set}
 
 module _ (W x : ℕ) (at : ℕ → Route) (n a : ℕ) (t : List Range) (pos : 0 < n) where
-  stop : ends_by W x (at (n - 1)) ≡ false → sweep (before at n) a t ≡ closed W x (before at n) a t
-  stop e = rw (before_last at n pos, e)
-
   turn : (s : Sweep) → ends_by W x (at (n - 1)) ≡ true → s ≡ advanced (past_end W (at (n - 1))) (sweep (before at n) a t) →
       closed W x (before at (n - 1)) s.reached s.made ≡ closed W x (before at n) a t
   turn s e is = rw (before_last at n pos, e) (ap (λ u. closed W x (before at (n - 1)) u.reached u.made) (rw (before_last at n pos) at is))
@@ -28,9 +25,6 @@ pub record ClosingAt (x : ℕ) (keys words₀ words : List ℕ) (p s : Progress)
 
 module _ {x : ℕ} {keys words₀ words : List ℕ} {p s : Progress} (h : ClosingAt x keys words₀ words p s) where
   module _ (pos : 0 < s.opened) {r : Route} (is : r ≡ key_at keys (s.opened - 1)) where
-    pub closing-stop : ends_by 32 x r ≡ false → sweep_of s keys words ≡ closed_by 32 x (sweep_of p keys words₀)
-    closing-stop e = stop 32 x (key_at keys) s.opened s.reached (ranges_in s.made words) pos (rw is at e) ∙ h.left
-
     pub closing-turn : ends_by 32 x r ≡ true → {y : ℕ} → y ≡ past_end 32 r → {u : Progress} {words' : List ℕ} →
         sweep_of u keys words' ≡ advanced y (sweep_of s keys words) →
         (u.opened ≡ s.opened) × (u.made ≤ s.made + 1) × (length words' ≡ length words) →
@@ -45,9 +39,6 @@ module _ {x : ℕ} {keys words₀ words : List ℕ} {p s : Progress} (h : Closin
           (turn 32 x (key_at keys) s.opened s.reached (ranges_in s.made words) pos (sweep_of u keys words') (rw is at e) (rw (past, is) at on)))
           ∙ h.left;
     }
-
-  pub closing_end : s.opened ≤ 0 → sweep_of s keys words ≡ closed_by 32 x (sweep_of p keys words₀)
-  closing_end l = let e : s.opened ≡ 0 = omega arith in (rw e) ∙ h.left
 
 -- a key stored behind those that are open, where the sweep has closed prefixes and gone on to its address
 pub opening-key : (keys words : List ℕ) (u : Progress) (s : Sweep) (key : ℕ) → u.opened < length keys →
@@ -65,22 +56,3 @@ pub record SweptTo (keys₀ words₀ keys words : List ℕ) (p : Progress) (i : 
   pub keyed : length keys ≡ length keys₀
   pub size : length words ≡ length words₀
   pub left : swept 32 (sweep_of p keys words) (routes_in (drop i keys)) ≡ swept 32 (sweep [] 0 []) (routes_in keys₀)
-
-module _ {keys₀ words₀ keys words : List ℕ} {p : Progress} {i : ℕ} (h : SweptTo keys₀ words₀ keys words p i) where
-  pub swept-turn : i < length keys → {u : Progress} {keys' words' : List ℕ} →
-      sweep_of u keys' words' ≡ opening 32 (sweep_of p keys words) (key_at keys i) →
-      (u.opened ≤ i + 1) × (u.made + u.opened ≤ p.made + p.opened + 2) →
-      (drop (i + 1) keys' ≡ drop (i + 1) keys) × (length keys' ≡ length keys) × (length words' ≡ length words) →
-      SweptTo keys₀ words₀ keys' words' u (i + 1)
-  swept-turn l is few same = record {
-    within = omega (arith, same.1);
-    stack = few.0;
-    room = omega (arith, few.1, h.room);
-    fits = h.fits;
-    keyed = same.1 ∙ h.keyed;
-    size = same.2 ∙ h.size;
-    left = rw (is, same.0, add-one i) (rw (drop-cons keys i 0 l) at h.left);
-  }
-
-  pub swept-end : length keys ≤ i → sweep_of p keys words ≡ swept 32 (sweep [] 0 []) (routes_in keys₀)
-  swept-end l = rw (drop_of_length-le keys l) at h.left
