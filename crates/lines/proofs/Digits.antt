@@ -7,7 +7,7 @@ use mathlib.Core.Bool.{Bool, true, false, cond}
 use native.Mathlib.Nat.{div-lt_iff_lt-mul, pow-suc}
 use native.Mathlib.Omega.{arith}
 use lib.Dec.{ltb}
-use borrow.Author.Tests.{lt-ltb, le-ltb}
+use borrow.Author.Tests.{le-ltb}
 use lib.ListN.{length, length-append, length-set, set}
 use lib.Seq.{sets}
 use Rattle.lines.specs.Texts.{digit, digits, decimal}
@@ -15,9 +15,6 @@ use Rattle.lines.proofs.Puts.{sets_last}
 
 tenth : {n : ℕ} (k : ℕ) → n < 10 ^ suc k → n / 10 < 10 ^ k
 tenth k h = (div-lt_iff_lt-mul {k = 10} (omega arith)).1 (rw pow-suc at h)
-
-digits_last : {n : ℕ} (k : ℕ) → n < 10 → digits (suc k) n ≡ digit n
-digits_last {n} k l = rw (lt-ltb n 10 l)
 
 digits_more : {n : ℕ} (k : ℕ) → 10 ≤ n → digits (suc k) n ≡ digits k (n / 10) ++ digit (n % 10)
 digits_more {n} k l = rw (le-ltb n 10 l)
