@@ -7,7 +7,7 @@ use mathlib.Core.Bool.{Bool, true, false, cond}
 use native.Mathlib.Nat.{div-lt_iff_lt-mul, pow-suc}
 use native.Mathlib.Omega.{arith}
 use lib.Dec.{ltb}
-use borrow.Author.Tests.{lt-ltb, le-ltb}
+use borrow.Author.Tests.{le-ltb}
 use lib.ListN.{length, length-append, length-set, set}
 use lib.Seq.{sets}
 use Rattle.lines.specs.Texts.{digit, digits, decimal}
@@ -15,9 +15,6 @@ use Rattle.lines.proofs.Puts.{sets_last}
 
 tenth : {n : ℕ} (k : ℕ) → n < 10 ^ suc k → n / 10 < 10 ^ k
 tenth k h = (div-lt_iff_lt-mul {k = 10} (omega arith)).1 (rw pow-suc at h)
-
-digits_last : {n : ℕ} (k : ℕ) → n < 10 → digits (suc k) n ≡ digit n
-digits_last {n} k l = rw (lt-ltb n 10 l)
 
 digits_more : {n : ℕ} (k : ℕ) → 10 ≤ n → digits (suc k) n ≡ digits k (n / 10) ++ digit (n % 10)
 digits_more {n} k l = rw (le-ltb n 10 l)
@@ -46,9 +43,6 @@ module _ {n rest k : ℕ} (s : CountedDigits n rest k) where
         left = omega (arith, ap length (digits_more (suc m) l), length-append (digits (suc m) (rest / 10)) (digit (rest % 10)));
       }
 
-  pub digits-end : rest < 10 → (k ≡ length (decimal n)) × (k ≤ 20)
-  digits-end l = (omega (arith, s.left, ap length (digits_last s.most l)), omega (arith, s.taken))
-
 -- `rest` is left of n after the digits from place i on were put into the row, where n's digits begin at `at`
 pub record PutDigits (n at : ℕ) (row₀ row : List ℕ) (rest i : ℕ) : Type 0 where
   pub most : ℕ
@@ -63,11 +57,6 @@ unfolding decimal
 put-start h e l = record { most = 19; few = h; place = e; room = l; size = refl; left = refl }
 
 module _ {n at : ℕ} {row₀ row : List ℕ} {rest i : ℕ} (s : PutDigits n at row₀ row rest i) where
-  -- there is a place for the next digit
-  pub put-place : 10 ≤ rest → at < i
-  put-place l =
-      omega (arith, s.place, ap length (digits_more s.most l), length-append (digits s.most (rest / 10)) (digit (rest % 10)))
-
   pub put-turn : {d : ℕ} → d ≡ 48 + rest % 10 → 10 ≤ rest → PutDigits n at row₀ (set row (i - 1) d) (rest / 10) (i - 1)
   put-turn {d} is l = go s.most s.few s.place s.left
     where
@@ -85,12 +74,6 @@ module _ {n at : ℕ} {row₀ row : List ℕ} {rest i : ℕ} (s : PutDigits n at
             size = simp length-set s.size;
             left = rw (q, is) (sym (sets_last ds row at (48 + rest % 10))) ∙ ap (sets row at) (sym (digits_more (suc m) l)) ∙ e;
           }
-
-  pub put-inside : rest < 10 → at < length row
-  put-inside l = omega (arith, s.place, s.room, s.size, ap length (digits_last s.most l))
-
-  pub put-end : {d : ℕ} → d ≡ 48 + rest → rest < 10 → set row at d ≡ sets row₀ at (decimal n)
-  put-end is l = rw is (ap (sets row at) (sym (digits_last s.most l)) ∙ s.left)
 
 digits-size : (k n : ℕ) → length (digits k n) ≤ k
 digits-size zero n = omega arith

@@ -1,15 +1,14 @@
 -- Texts put into a row one behind the other are one text put there; a text put at the row's front is what a call that writes it leaves.
-use Prim.Native.Nat.{ℕ, suc, ◌+◌, ◌≤◌, ◌<◌}
-use mathlib.Core.Path.{◌≡◌, refl, sym, ◌∙◌}
+use Prim.Native.Nat.{ℕ, suc, ◌+◌, ◌≤◌}
+use mathlib.Core.Path.{◌≡◌, sym, ◌∙◌}
 use mathlib.Core.Logic.{◌≢◌}
 use mathlib.Core.List.{List, [], ◌∷◌, ◌++◌}
 use native.Mathlib.Nat.{zero-add, add-zero}
 use native.Mathlib.Omega.{arith}
-use borrow.Author.Tests.{lt-ltb, le-ltb}
-use native.Mathlib.Numerals.{add-one}
-use lib.ListN.{length, length-append, length-set, set, drop, get_or, drop_of_length-le}
-use lib.Seq.{sets, sets-eq, set_comm, drop-cons}
-use Rattle.route.specs.Refusals.{value, refused, room_refusal}
+use borrow.Author.Tests.{le-ltb}
+use lib.ListN.{length, length-append, set, drop}
+use lib.Seq.{sets, sets-eq, set_comm}
+use Rattle.route.specs.Refusals.{value}
 use Rattle.lines.specs.Lines.{IsPut, IsWritten}
 
 sets-append : (xs ys row : List ℕ) (at : ℕ) → sets row at (xs ++ ys) ≡ sets (sets row at xs) (at + length xs) ys
@@ -32,11 +31,8 @@ put_then {xs} {ys} {row} {at = at} p q = record {
   puts = q.puts ∙ rw (p.puts, p.ends) (sym (sets-append xs ys row at));
 }
 
--- what a call that writes a text of so many bytes leaves: the buffer is too short, or the text was put at its front
+-- what a call that writes a text of so many bytes leaves where there is room for it: the text was put at its front
 module _ {text buffer : List ℕ} {size : ℕ} (counts : size ≡ length text) where
-  pub too_short : length buffer < size → IsWritten text buffer (refused room_refusal 0) buffer
-  too_short l = let e = lt-ltb (length buffer) (length text) (omega arith) in record { answers = rw e; after = rw e }
-
   pub written : {buffer' : List ℕ} {next : ℕ} → size ≤ length buffer → IsPut text buffer 0 next buffer' → IsWritten text buffer (value size) buffer'
   written l p =
       let e = le-ltb (length buffer) (length text) (omega arith) in
@@ -48,20 +44,3 @@ pub record PutBytes (text : List ℕ) (at : ℕ) (row₀ row : List ℕ) (i : �
   pub room : at + length text ≤ length row₀
   pub size : length row ≡ length row₀
   pub left : sets row (at + i) (drop i text) ≡ sets row₀ at text
-
-pub bytes-start : {text row : List ℕ} {at : ℕ} → at + length text ≤ length row → PutBytes text at row row 0
-bytes-start l = record { within = omega arith; room = l; size = refl; left = rw add-zero }
-
-module _ {text : List ℕ} {at : ℕ} {row₀ row : List ℕ} {i : ℕ} (s : PutBytes text at row₀ row i) where
-  pub bytes-turn : i < length text → PutBytes text at row₀ (set row (at + i) (get_or text i 0)) (i + 1)
-  bytes-turn l =
-      let e : at + (i + 1) ≡ suc (at + i) = omega arith in
-      record {
-        within = omega arith;
-        room = s.room;
-        size = simp length-set s.size;
-        left = rw (e, add-one i) (rw (drop-cons text i 0 l) at s.left);
-      }
-
-  pub bytes-end : length text ≤ i → IsPut text row₀ at (at + i) row
-  bytes-end l = record { ends = omega (arith, s.within); puts = rw (drop_of_length-le text l) at s.left }
