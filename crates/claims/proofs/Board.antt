@@ -1,6 +1,6 @@
 -- The definitions give each board case what is expected: both sides compute to the same rows. A chunk is first read out of the built rows by
 -- the law of where it stands, since the whole main table is not worked out.
-use Prim.Native.Nat.{ℕ, ◌<◌}
+use Prim.Native.Nat.{ℕ}
 use mathlib.Core.Path.{◌≡◌, ap, ◌∙◌}
 use mathlib.Core.List.{List, ◌∷◌, [], ◌++◌}
 use native.Mathlib.Omega.{arith}

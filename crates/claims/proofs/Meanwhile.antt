@@ -4,7 +4,7 @@
 -- By induction over the events. A single write leads from one cut to the next. A set or a removal that finds no plan begun, or one made to
 -- its end, is a call of the sequence; one that finds a plan half made is refused, for such a table breaks a rule. So demand 3 says of each
 -- image that lookups accept it, and it keeps S1.
-use Prim.Native.Nat.{ℕ, suc, ◌+◌, ◌≤◌, ◌<◌, zero-le}
+use Prim.Native.Nat.{ℕ, suc, ◌≤◌, ◌<◌, zero-le}
 use mathlib.Core.Path.{◌≡◌, refl, sym, ap, subst, ◌∙◌}
 use mathlib.Core.Logic.{◌≢◌, ◌⊎◌, inl, inr}
 use mathlib.Core.List.Memᴰ

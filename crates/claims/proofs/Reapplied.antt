@@ -1,10 +1,9 @@
 -- A plan applied again from its start: the tests read the lengths of the rows alone, which stay, and the writes that are made once more
 -- leave what they leave the first time.
 use Prim.Native.Nat.{ℕ}
-use mathlib.Core.Path.{◌≡◌, sym, ◌∙◌}
+use mathlib.Core.Path.{◌≡◌}
 use mathlib.Core.List.{List}
 use lib.ListN.{length, take}
-use Rattle.route.specs.Refusals.{fine}
 use Rattle.tcam.specs.Applies.{writes_in, apply_fault, applied_addresses, applied_tags}
 use Rattle.tcam.proofs.Stores.{length-stored_if, stored_if-again}
 use Rattle.claims.specs.Reapplied.{Reapplied}
