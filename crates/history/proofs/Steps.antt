@@ -10,7 +10,7 @@ use Rattle.route.proofs.Tests.{and_parts}
 use Rattle.tcam.specs.Slots.{Cell, is_free}
 use Rattle.tcam.specs.Tables.{route_of}
 use Rattle.tcam.specs.Loops.{cell_at}
-use Rattle.tcam.proofs.Rows.{get_d-cells}
+use Rattle.tcam.proofs.Rows.{get_or-cells}
 use Rattle.records.specs.Records.{Update, update, ended, refused_at, record_at}
 use Rattle.route.specs.Refusals.{Answer}
 use Rattle.lines.specs.Lines.{refused_line, slot_line, end_line, IsWritten}
@@ -34,56 +34,30 @@ placed-parts {bs} {n} {at} r = let h = and_parts (leb n at) (leb at (length bs))
 
 -- rows that are copies are as good
 module _ (bs : List ℕ) (s : Stage) {ad ts ad' ts' : List ℕ} (a : ad' ≡ ad) (t : ts' ≡ ts) where
-  pub ready-copy : Ready bs s (rows ad ts) → Ready bs s (rows ad' ts')
-  ready-copy r = rw (a, t) r
-
   pub printed-copy : {size : ℕ} → size ≡ length (step_text bs s (rows ad' ts')) → size ≡ length (step_text bs s (rows ad ts))
   printed-copy e = rw (a, t) at e
-
--- where nothing is printed: a free slot, the end of the input
-pub slot-free : (slot : ℕ) (c : Cell) {buffer : List ℕ} → is_free c ≡ true → IsPrinted (slot_text slot c) buffer 0 buffer
-slot-free slot c e = rw e nothing-printed
-
-pub step-ended : (bs : List ℕ) (n at : ℕ) {t : Rows} {buffer : List ℕ} → ended ≡ record_at 32 bs at →
-    IsStep bs (Reading n at) t buffer (stepped 0 (Listing (slot_at 0))) t buffer
-step-ended bs n at e = record { stage = rw (← e); table = rw (← e); line = rw (← e) nothing-printed }
 
 -- a slot's line, and that of an update, fit where the step's does
 module _ {room : ℕ} where
   pub slot-fits : (slot : ℕ) (t : Rows) → slot < length t.addresses → length t.addresses ≡ length t.tags →
       length (step_text [] (Listing (slot_at slot)) t) ≤ room → length (slot_text slot (cell_at t.addresses t.tags slot)) ≤ room
-  slot-fits slot t l e f = rw (lt-ltb slot (length t.addresses) l, get_d-cells t.addresses t.tags slot e l) at f
+  slot-fits slot t l e f = rw (lt-ltb slot (length t.addresses) l, get_or-cells t.addresses t.tags slot e l) at f
 
   pub update-fits : (bs : List ℕ) (n at : ℕ) (t : Rows) {u : Update} {next : ℕ} → update u next ≡ record_at 32 bs at →
       length (step_text bs (Reading n at) t) ≤ room → length (reported_text (n + 1) t u) ≤ room
   update-fits bs n at t e f = rw (← e) at f
 
 module _ {buffer : List ℕ} {size : ℕ} {buffer' : List ℕ} where
-  pub slot-used : (slot : ℕ) (c : Cell) {a : Answer} → is_free c ≡ false → IsWritten (slot_line slot (route_of c)) buffer a buffer' → size ≡ size_of a →
-      length (slot_text slot c) ≤ length buffer → IsPrinted (slot_text slot c) buffer size buffer'
-  slot-used slot c e = line-printed (rw e)
-
   module _ (slot : ℕ) (t : Rows) where
     pub step-slot : slot < length t.addresses → length t.addresses ≡ length t.tags →
         IsPrinted (slot_text slot (cell_at t.addresses t.tags slot)) buffer size buffer' →
         IsStep [] (Listing (slot_at slot)) t buffer (stepped size (Listing (slot_at (slot + 1)))) t buffer'
     step-slot l e p =
         let inside = lt-ltb slot (length t.addresses) l in
-        record { stage = rw inside; table = refl; line = rw (inside, get_d-cells t.addresses t.tags slot e l) p }
+        record { stage = rw inside; table = refl; line = rw (inside, get_or-cells t.addresses t.tags slot e l) p }
 
     pub step_end : {a : Answer} → length t.addresses ≤ slot → IsWritten end_line buffer a buffer' → size ≡ size_of a →
         length (step_text [] (Listing (slot_at slot)) t) ≤ length buffer → IsStep [] (Listing (slot_at slot)) t buffer (stepped size Done) t buffer'
     step_end l w s f =
         let past = le-ltb slot (length t.addresses) l in
         record { stage = rw past; table = refl; line = line-printed (rw past) w s f }
-
-  -- an update, and a record that cannot be read
-  module _ (bs : List ℕ) (n at : ℕ) {t : Rows} where
-    pub step-update : {u : Update} {next : ℕ} {t' : Rows} → update u next ≡ record_at 32 bs at → IsReported (n + 1) u t buffer size t' buffer' →
-        IsStep bs (Reading n at) t buffer (stepped size (Reading (n + 1) next)) t' buffer'
-    step-update e r = record { stage = rw (← e); table = rw (← e) r.table; line = rw (← e) r.line }
-
-    pub step-unreadable : {m q : ℕ} {a : Answer} → refused_at m q ≡ record_at 32 bs at → IsWritten (refused_line (n + 1) m) buffer a buffer' →
-        size ≡ size_of a → length (step_text bs (Reading n at) t) ≤ length buffer →
-        IsStep bs (Reading n at) t buffer (stepped size (Listing (slot_at 0))) t buffer'
-    step-unreadable e w s f = record { stage = rw (← e); table = rw (← e); line = line-printed (rw (← e)) w s f }

@@ -57,22 +57,3 @@ line-printed {text} {line} {buffer} same w s fits =
 pub accepted-fits : (nth : ℕ) (u : Update) (w used : ℕ) → length (accepted_text nth u w used) ≤ max_line
 accepted-fits nth (setting r) w used = update-fits nth _ _ w used (omega arith)
 accepted-fits nth (removal a n) w used = update-fits nth _ _ w used (omega arith)
-
--- the line of a refused update, and of one that was made
-module _ (nth : ℕ) {u : Update} {t t' : Rows} {buffer buffer' : List ℕ} {a : Answer} {size : ℕ} (fits : length (reported_text nth t u) ≤ length buffer) where
-  pub reported-refused : {n q : ℕ} → IsUpdated u t (refused n q) t' → IsWritten (refused_line nth n) buffer a buffer' → size ≡ size_of a →
-      IsReported nth u t buffer size t' buffer'
-  reported-refused {n} {q} h l s = record { table = h.table; line = line-printed (text (plan_of t u plan_room) h.answers) l s fits }
-    where
-      text : (p : Planned) → refused n q ≡ plan_answer p → update_text nth u p (after t p) ≡ refused_line nth n
-      text (refuses m r) e = let same : m ≡ n = cc in rw same
-      text (writes ws) e = absurd (let z : ◌≡◌ {A = ℕ} 0 1 = cc in omega arith)
-
-  pub reported-accepted : {w used : ℕ} → IsUpdated u t (value w) t' → used ≡ used_in (slots t') → IsWritten (accepted_text nth u w used) buffer a buffer' →
-      size ≡ size_of a → IsReported nth u t buffer size t' buffer'
-  reported-accepted {w} {used} h e l s =
-      record { table = h.table; line = line-printed (sym (text (plan_of t u plan_room) h.answers (e ∙ ap (λ t. used_in (slots t)) h.table))) l s fits }
-    where
-      text : (p : Planned) → value w ≡ plan_answer p → used ≡ used_in (slots (after t p)) → accepted_text nth u w used ≡ update_text nth u p (after t p)
-      text (refuses m r) v e = absurd (let z : ◌≡◌ {A = ℕ} 0 1 = cc in omega arith)
-      text (writes ws) v e = let same : w ≡ length ws = cc in rw (same, e)

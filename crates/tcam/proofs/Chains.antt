@@ -6,7 +6,7 @@ use Rattle.tcam.specs.Slots.{Cell, max_slots, cells}
 use Rattle.tcam.specs.Plans.{Write, write, first_slot, last_slot, is_some, open_after, chain, numbers}
 use Rattle.tcam.specs.Loops.{cell_at, edge, edge_of, lengths_from, length_at, lengths_of, ShorterBy, chain_of, moves, slot_in, EdgesOf}
 use Rattle.tcam.specs.declared.plan.Lengths.{Lengths}
-use Rattle.tcam.proofs.Rows.{length-cells, get_d-cells}
+use Rattle.tcam.proofs.Rows.{length-cells, get_or-cells}
 use Rattle.tcam.proofs.Lengths.{lengths_none}
 
 -- a slot that was found is one of the table's
@@ -139,7 +139,7 @@ module _ {W : ℕ} {ad ts row : List ℕ} {c : Cell} {all : List Write} {start :
         chain-slot = edge-bound r.up _ ad ts h.equal t (sym (here ∙ n))
 
         moved : chain_of r (cells ad ts) at c ≡ write at (cell_at ad ts t) ∷ chain_of next (cells ad ts) t c
-        moved = rw (s.is, here ∙ n, s.same, get_d-cells ad ts t h.equal chain-slot)
+        moved = rw (s.is, here ∙ n, s.same, get_or-cells ad ts t h.equal chain-slot)
 
         pub chain-room : 3 * w + 3 ≤ length plan
         chain-room = omega (arith, h.room, h.size, rw moved at h.count)

@@ -13,7 +13,7 @@ use Rattle.tcam.specs.Slots.{Cell, cells, is_free, length_in, keeps_s1, slot_fau
 use Rattle.tcam.specs.Plans.{first_slot, last_slot, or_else, of_length}
 use Rattle.tcam.specs.Loops.{cell_at, edge, slot_in, as_slot, group_of, EdgesOf, visited}
 use Rattle.tcam.proofs.OrElse.{or-else-assoc, or_else_none, or-else-cond}
-use Rattle.tcam.proofs.Rows.{cells_at, get_d-cells}
+use Rattle.tcam.proofs.Rows.{cells_at, get_or-cells}
 use Rattle.tcam.proofs.Cells.{used-short, slot-keeps}
 
 -- no slot before slot i has the property
@@ -96,7 +96,7 @@ group-free W c k = go (is_free c) (used-short W c k)
 -- each slot of rows without a fault keeps S1
 keeps-at : (W : ℕ) (ad ts : List ℕ) → length ad ≡ length ts → (i : ℕ) → slot_fault W 0 (cells ad ts) ≡ fine → i < length ad →
     keeps_s1 W (cell_at ad ts i) ≡ true
-keeps-at W ad ts e i f l = rw (get_d-cells ad ts i e l) at (slot-keeps W 0 (cells ad ts) i f)
+keeps-at W ad ts e i f l = rw (get_or-cells ad ts i e l) at (slot-keeps W 0 (cells ad ts) i f)
 
 -- k slots were visited: the row has, for each group, the last one found among them
 pub record EdgesAmong (W : ℕ) (up : Bool) (ad ts row : List ℕ) (k : ℕ) : Type 0 where

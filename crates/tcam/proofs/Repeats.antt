@@ -23,7 +23,7 @@ use Rattle.route.specs.declared.Slot.{Slot}
 use Rattle.route.proofs.Tests.{by_test, either, and_parts, or_parts, clash}
 use Rattle.route.proofs.Members.{none-stronger}
 use Rattle.tcam.proofs.Cells.{used-short, slot-keeps}
-use Rattle.tcam.proofs.Rows.{cells_at, get_d-cells}
+use Rattle.tcam.proofs.Rows.{cells_at, get_or-cells}
 use Rattle.tcam.proofs.OrElse.{or-else-assoc, or_else_none, or-else-cond, or_else_some}
 use Rattle.tcam.proofs.Runs.{run_holds_lem, repeats-in-run}
 use Rattle.tcam.proofs.RunLoops.{run-other}
@@ -160,4 +160,4 @@ repeat-entry ad ts e = go (length ad) 0 (omega arith)
 -- and its length is at most W where slots keep S1
 pub entry-short : {W : ℕ} {ad ts : List ℕ} → TableRows W ad ts → (s : ℕ) → EntryAt ad ts (some s) → length_in (cell_at ad ts s) ≤ W
 entry-short {W} {ad} {ts} t s e =
-    used-short W (cell_at ad ts s) (rw (get_d-cells ad ts s t.equal e.0) at (slot-keeps W 0 (cells ad ts) s t.keeps)) e.1
+    used-short W (cell_at ad ts s) (rw (get_or-cells ad ts s t.equal e.0) at (slot-keeps W 0 (cells ad ts) s t.keeps)) e.1

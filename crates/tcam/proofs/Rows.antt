@@ -26,8 +26,8 @@ length-cells [] ts e = refl
 length-cells (a ∷ ad) [] e = absurd (omega arith)
 length-cells (a ∷ ad) (t ∷ ts) e = ap suc (length-cells ad ts (omega arith))
 
-pub get_d-cells : (ad ts : List ℕ) (s : ℕ) → length ad ≡ length ts → s < length ad → get_or (cells ad ts) s free ≡ cell_at ad ts s
-get_d-cells [] ts s e l = absurd (omega arith)
-get_d-cells (a ∷ ad) [] s e l = absurd (omega arith)
-get_d-cells (a ∷ ad) (t ∷ ts) zero e l = refl
-get_d-cells (a ∷ ad) (t ∷ ts) (suc s) e l = get_d-cells ad ts s (omega arith) (omega arith)
+pub get_or-cells : (ad ts : List ℕ) (s : ℕ) → length ad ≡ length ts → s < length ad → get_or (cells ad ts) s free ≡ cell_at ad ts s
+get_or-cells [] ts s e l = absurd (omega arith)
+get_or-cells (a ∷ ad) [] s e l = absurd (omega arith)
+get_or-cells (a ∷ ad) (t ∷ ts) zero e l = refl
+get_or-cells (a ∷ ad) (t ∷ ts) (suc s) e l = get_or-cells ad ts s (omega arith) (omega arith)

@@ -5,7 +5,7 @@ use Rattle.route.specs.Refusals.{fine}
 use Rattle.tcam.specs.Slots.{Cell, cells, free}
 use Rattle.tcam.specs.Plans.{Write, write, with_room, numbers, remove_by}
 use Rattle.tcam.specs.Loops.{chain_of, cell_at, edge_of, lengths_of}
-use Rattle.tcam.proofs.Rows.{get_d-cells}
+use Rattle.tcam.proofs.Rows.{get_or-cells}
 use Rattle.tcam.proofs.Chains.{chain_length}
 use Rattle.tcam.proofs.Planned.{planned-same, planned-put, no_room, gap-elsewhere}
 use Rattle.tcam.proofs.plan.plan_gap.Goals as goal
@@ -30,7 +30,7 @@ module _ (c : After-count_moves-total) where
   gapped =
       let a = c.args in
       gap-elsewhere (edge_of a.lengths.up table) table (lengths_of a.lengths) c.if-s-edge.false
-      ∙ rw (get_d-cells a.addresses.now a.tags.now a.edge.0 c.requires.addresses_len.0 c.requires.addresses_len.3)
+      ∙ rw (get_or-cells a.addresses.now a.tags.now a.edge.0 c.requires.addresses_len.0 c.requires.addresses_len.3)
 
 pub returns-then-plan-total : goal.returns-then-plan-total
 returns-then-plan-total c =

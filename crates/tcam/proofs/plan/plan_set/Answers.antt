@@ -6,7 +6,7 @@ use Rattle.route.proofs.Accepted.{prefix-good}
 use Rattle.route.proofs.Tests.{in_turn}
 use Rattle.tcam.specs.Plans.{of_prefix}
 use Rattle.tcam.specs.Shown.{place_of}
-use Rattle.tcam.proofs.Rows.{get_d-cells}
+use Rattle.tcam.proofs.Rows.{get_or-cells}
 use Rattle.tcam.proofs.Sizes.{tested, table-rows}
 use Rattle.tcam.proofs.Chains.{edge-bound}
 use Rattle.tcam.proofs.Planned.{planned-same}
@@ -35,5 +35,5 @@ returns c =
     let slot : c.in-At.s.0 < length a.addresses.now =
     edge-bound true (of_prefix a.address a.length.0) a.addresses.now a.tags.now rows.equal _ (sym (ap place_of c.in-At.is) ∙ c.find-place.ensures) in
     planned-same
-    (rw (← c.table_check-table.ensures, c.in_default.is, ← c.entry_check-entry.ensures, c.in_default-entry.is, ← c.find-place.ensures, c.in-At.is, get_d-cells a.addresses.now a.tags.now _ rows.equal slot))
+    (rw (← c.table_check-table.ensures, c.in_default.is, ← c.entry_check-entry.ensures, c.in_default-entry.is, ← c.find-place.ensures, c.in-At.is, get_or-cells a.addresses.now a.tags.now _ rows.equal slot))
     c.replace.ensures

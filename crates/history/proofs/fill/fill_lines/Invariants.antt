@@ -1,0 +1,21 @@
+-- Step by step: the part up to byte `at` is printed. The measure is how many steps are left.
+use borrow.Author.Rules.{rules}
+use borrow.Author.Tests.{not-false}
+use Prim.Native.Nat.{◌-◌, ◌≤◌}
+use mathlib.Core.Path.{◌≡◌, refl, sym, ap, ◌∙◌}
+use mathlib.Core.Bool.{true, false, ◌||◌}
+use native.Mathlib.Omega.{arith}
+use lib.Dec.{ltb}
+use lib.ListN.{length}
+use Rattle.history.specs.Reports.{rows}
+use Rattle.history.specs.Stages.{is_done, step_text, steps_left}
+use Rattle.history.proofs.Stages.{step-size, step_falls}
+use Rattle.history.proofs.Filling.{Filling, filling-start, lent, filling-turn, filling-end, filling-refused, stepped-fits, goes_on_lem}
+use Rattle.history.proofs.fill.fill_lines.Given as goal
+
+abbrev pub invariant-loop-addresses : goal.invariant-loop-addresses
+invariant-loop-addresses l =
+    Filling l.bytes l.initial.s (rows l.initial.addresses l.initial.tags) l.initial.out l.s (rows l.addresses l.tags) l.out l.at × (length l.addresses ≡ length l.initial.addresses)
+
+abbrev pub decreases-loop-addresses : goal.decreases-loop-addresses
+decreases-loop-addresses l = steps_left (length l.bytes) (length l.initial.addresses) l.s
