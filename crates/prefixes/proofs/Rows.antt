@@ -3,17 +3,19 @@
 -- In the row filled, which is the rows and then the rest as found, each row is found again.
 use Prim.Native.Nat.{ℕ, suc, ◌+◌, ◌*◌, ◌≤◌, ◌<◌}
 use mathlib.Core.Path.{◌≡◌, refl, ◌∙◌, ap}
+use mathlib.Core.Bool.{Bool}
 use mathlib.Core.List.{List, [], ◌∷◌, ◌++◌, map, append_assoc}
 use native.Mathlib.Omega.{arith}
 use native.Mathlib.Nat.{zero-add}
 use native.Mathlib.Numerals.{add-one}
-use lib.ListN.{length, get_or, set, take, drop, length-map, length-append, length-drop, get_or-map}
-use lib.Seq.{sets, sets-eq, length-sets, set_comm, take-suc, length-take-le, take-length, take_at, drop_at}
+use lib.ListN.{length, get_or, set, take, drop, length-map, length-append, get_or-map}
+use lib.Seq.{sets, sets-eq, set_comm, take-suc, length-take-le, take-length, take_at, drop_at}
 use Rattle.route.specs.Rows.{overwritten}
 use Rattle.route.specs.declared.Prefix.{Prefix}
 use Rattle.route.proofs.Parts.{sets-append}
 use Rattle.prefixes.specs.Prefixes.{address_row, length_row, hop_row}
-use Rattle.prefixes.specs.Queries.{three_rows}
+use Rattle.prefixes.specs.Queries.{three_rows, first, second, third, IsReply, IsReplyOf}
+use Rattle.prefixes.specs.declared.Reply.{Reply}
 
 -- a store in front of a run
 set-sets : (l : List ℕ) (k : ℕ) (vs : List ℕ) (j a : ℕ) → j < k → set (sets l k vs) j a ≡ sets (set l j a) k vs
@@ -46,21 +48,14 @@ module _ (ys : List Prefix) (xs : List ℕ) where
       let l₂ : n + i < 2 * n = omega arith in
       simp (set-sets, add-one, zero-add, set_next (λ p. p.address), set_next (λ p. p.length.0), set_next (λ p. p.hop.0))
 
-  pub length-filled : (i : ℕ) → length (filled i) ≡ length xs
-  length-filled i = simp length-sets
-
-  module _ (room : 3 * n ≤ length xs) where
-    pub filled-all : filled n ≡ overwritten (three_rows ys) xs
-    filled-all =
-        let two : 2 * n ≡ n + n = omega arith in
-        let l : 0 + length (three_rows ys) ≤ length xs = simp (length-append, length-map) (omega arith) in
-        rw (all (λ p. p.address), all (λ p. p.length.0), all (λ p. p.hop.0), two) (simp (sets-append, length-map, zero-add) at (sets-eq (three_rows ys) xs 0 l))
-      where
-        all : (f : Prefix → ℕ) → take n (map f ys) ≡ map f ys
-        all f = rw length-map at (take-length (map f ys))
-
-    pub length-overwritten : length (overwritten (three_rows ys) xs) ≡ length xs
-    length-overwritten = simp (length-append, length-drop, length-map) (omega arith)
+  pub filled-all : 3 * n ≤ length xs → filled n ≡ overwritten (three_rows ys) xs
+  filled-all room =
+      let two : 2 * n ≡ n + n = omega arith in
+      let l : 0 + length (three_rows ys) ≤ length xs = simp (length-append, length-map) (omega arith) in
+      rw (all (λ p. p.address), all (λ p. p.length.0), all (λ p. p.hop.0), two) (simp (sets-append, length-map, zero-add) at (sets-eq (three_rows ys) xs 0 l))
+    where
+      all : (f : Prefix → ℕ) → take n (map f ys) ≡ map f ys
+      all f = rw length-map at (take-length (map f ys))
 
   abbrev made : List ℕ
   made = overwritten (three_rows ys) xs
@@ -78,3 +73,8 @@ module _ (ys : List Prefix) (xs : List ℕ) where
   third-row =
       let e : length (address_row ys ++ length_row ys) ≡ 2 * n = simp (length-append, length-map) (omega arith) in
       part made (address_row ys ++ length_row ys) (hop_row ys) rest (simp append_assoc) e (length-map ys _)
+
+-- the reply for the rows that stand in the row filled is the reply for the list
+pub reply-of-list : {W q : ℕ} {looking : Bool} {reply : Reply} (ps : List Prefix) (xs zs : List ℕ) → zs ≡ overwritten (three_rows ps) xs
+    → IsReply W looking (first (length ps) zs) (second (length ps) zs) (third (length ps) zs) q reply → IsReplyOf W looking ps q reply
+reply-of-list ps xs zs e says = rw (e, first-row ps xs, second-row ps xs, third-row ps xs) at says
