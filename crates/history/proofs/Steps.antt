@@ -1,22 +1,19 @@
 -- One step: what is printed at each stage, and where it leads.
 use Prim.Native.Nat.{ℕ, ◌+◌, ◌≤◌, ◌<◌}
 use mathlib.Core.Path.{◌≡◌, refl}
-use mathlib.Core.Bool.{true, false}
 use mathlib.Core.List.{List, []}
 use lib.Dec.{leb}
 use lib.ListN.{length}
 use borrow.Author.Tests.{lt-ltb, le-ltb, leb-true}
 use Rattle.route.proofs.Tests.{and_parts}
-use Rattle.tcam.specs.Slots.{Cell, is_free}
-use Rattle.tcam.specs.Tables.{route_of}
 use Rattle.tcam.specs.Loops.{cell_at}
 use Rattle.tcam.proofs.Rows.{get_or-cells}
-use Rattle.records.specs.Records.{Update, update, ended, refused_at, record_at}
+use Rattle.records.specs.Records.{Update, update, record_at}
 use Rattle.route.specs.Refusals.{Answer}
-use Rattle.lines.specs.Lines.{refused_line, slot_line, end_line, IsWritten}
+use Rattle.lines.specs.Lines.{end_line, IsWritten}
 use Rattle.history.specs.Reports.{Rows, rows, slot_text, reported_text}
 use Rattle.history.specs.Stages.{slot_at, step_text}
-use Rattle.history.specs.Steps.{size_of, IsPrinted, IsReported, Ready, IsStep}
+use Rattle.history.specs.Steps.{size_of, IsPrinted, Ready, IsStep}
 use Rattle.history.specs.declared.Stage.{Stage}
 use Rattle.history.specs.declared.Stage.TheVariants.{Reading, Listing, Done}
 use Rattle.history.specs.declared.step.Stepped.{Stepped}
@@ -24,9 +21,6 @@ use Rattle.history.proofs.Updates.{line-printed}
 
 abbrev pub stepped : ℕ → Stage → Stepped
 stepped n s = record { size = n; stage = s }
-
-pub nothing-printed : {buffer : List ℕ} → IsPrinted [] buffer 0 buffer
-nothing-printed = record { counts = refl; prints = refl }
 
 -- a reading stage of these bytes
 pub placed-parts : {bs : List ℕ} {n at : ℕ} {t : Rows} → Ready bs (Reading n at) t → (n ≤ at) × (at ≤ length bs)

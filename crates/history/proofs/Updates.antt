@@ -1,21 +1,20 @@
 -- One update: its plan is refused and the table stays, or it is applied whole, which an accepted plan always can be; and its line, which
 -- fits, is printed.
 use Prim.Native.Nat.{ℕ, ◌≤◌}
-use mathlib.Core.Path.{◌≡◌, refl, sym, ap, ◌∙◌}
+use mathlib.Core.Path.{◌≡◌, refl, ap, ◌∙◌}
 use mathlib.Core.List.{List}
 use native.Mathlib.Omega.{arith}
 use borrow.Author.Tests.{le-ltb}
 use lib.ListN.{length}
 use Rattle.route.specs.Refusals.{Answer, value, refused}
-use Rattle.tcam.specs.Slots.{used_in}
 use Rattle.tcam.specs.Plans.{Write, Planned, refuses, writes, plan_answer, row_after}
 use Rattle.tcam.specs.Applies.{IsApplied}
 use Rattle.tcam.proofs.Whole.{AppliesWhole, set-applies, remove-applies}
 use Rattle.records.specs.Records.{Update, removal, setting}
-use Rattle.lines.specs.Lines.{refused_line, max_line, IsWritten}
+use Rattle.lines.specs.Lines.{max_line, IsWritten}
 use Rattle.lines.proofs.Sizes.{update-fits}
-use Rattle.history.specs.Reports.{Rows, rows, slots, plan_room, plan_of, after, accepted_text, update_text, reported_text}
-use Rattle.history.specs.Steps.{size_of, IsPrinted, IsUpdated, IsReported}
+use Rattle.history.specs.Reports.{Rows, rows, plan_room, plan_of, after, accepted_text}
+use Rattle.history.specs.Steps.{size_of, IsPrinted, IsUpdated}
 
 -- an accepted plan can be applied whole
 plan-applies : (t : Rows) (u : Update) (room : ℕ) {ws : List Write} → plan_of t u room ≡ writes ws → (row : List ℕ) →

@@ -1,13 +1,11 @@
 -- Step by step: the part up to byte `at` is printed, and the loop goes on where a step is left whose line fits.
-use borrow.Author.Rules.{rules}
 use borrow.Author.Tests.{not-false}
 use mathlib.Core.Path.{◌≡◌, sym, ap, ◌∙◌}
-use mathlib.Core.Bool.{true, false, ◌||◌}
-use Prim.Native.Nat.{◌-◌, ◌≤◌}
-use lib.Dec.{ltb}
+use mathlib.Core.Bool.{false}
+use Prim.Native.Nat.{◌-◌}
 use lib.ListN.{length}
 use Rattle.history.specs.Reports.{rows}
-use Rattle.history.specs.Stages.{is_done, step_text}
+use Rattle.history.specs.Stages.{is_done}
 use Rattle.history.proofs.Stages.{step-size, step_falls}
 use Rattle.history.proofs.Filling.{filling-turn, filling-end, filling-refused, goes_on_lem}
 use Rattle.history.proofs.fill.fill_lines.Goals as goal

@@ -1,16 +1,9 @@
 -- Step by step: the part up to byte `at` is printed. The measure is how many steps are left.
-use borrow.Author.Rules.{rules}
-use borrow.Author.Tests.{not-false}
-use Prim.Native.Nat.{◌-◌, ◌≤◌}
-use mathlib.Core.Path.{◌≡◌, refl, sym, ap, ◌∙◌}
-use mathlib.Core.Bool.{true, false, ◌||◌}
-use native.Mathlib.Omega.{arith}
-use lib.Dec.{ltb}
+use mathlib.Core.Path.{◌≡◌}
 use lib.ListN.{length}
 use Rattle.history.specs.Reports.{rows}
-use Rattle.history.specs.Stages.{is_done, step_text, steps_left}
-use Rattle.history.proofs.Stages.{step-size, step_falls}
-use Rattle.history.proofs.Filling.{Filling, filling-start, lent, filling-turn, filling-end, filling-refused, stepped-fits, goes_on_lem}
+use Rattle.history.specs.Stages.{steps_left}
+use Rattle.history.proofs.Filling.{Filling}
 use Rattle.history.proofs.fill.fill_lines.Given as goal
 
 abbrev pub invariant-loop-addresses : goal.invariant-loop-addresses

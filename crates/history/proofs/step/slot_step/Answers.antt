@@ -1,7 +1,7 @@
 -- A slot has its line; behind the last one stands the end.
 use borrow.Author.Rules.{rules}
 use Rattle.history.specs.Reports.{rows}
-use Rattle.history.proofs.Steps.{step-slot, step_end, slot-fits}
+use Rattle.history.proofs.Steps.{step-slot, slot-fits}
 use Rattle.history.proofs.step.slot_step.Goals as goal
 
 pub slot_line-requires : goal.slot_line-requires

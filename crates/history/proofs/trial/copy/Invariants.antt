@@ -1,9 +1,7 @@
 -- Number by number. The measure is what is left of the row.
-use borrow.Author.Rules.{rules}
 use Prim.Native.Nat.{◌-◌}
-use mathlib.Core.Path.{refl}
 use lib.ListN.{length}
-use Rattle.route.proofs.Fills.{FilledTo, fill_start, fill-turn, fill-whole}
+use Rattle.route.proofs.Fills.{FilledTo}
 use Rattle.history.proofs.trial.copy.Given as goal
 
 abbrev pub invariant-loop-i : goal.invariant-loop-i

@@ -1,5 +1,4 @@
 -- No line exceeds the most, so where there is room for that, the step's line fits.
-use borrow.Author.Rules.{rules}
 use mathlib.Core.Path.{sym, ◌∙◌}
 use Rattle.history.specs.Reports.{rows}
 use Rattle.history.proofs.Stages.{step_fits}

@@ -1,9 +1,8 @@
 -- The plan's refusal is handed on; an accepted plan is applied whole.
-use borrow.Author.Rules.{rules}
 use mathlib.Core.Path.{sym, ap, ◌∙◌}
 use Rattle.route.specs.Shown.{counted}
 use Rattle.records.specs.Shown.{update_of}
-use Rattle.history.proofs.Updates.{updated-refused, updated-applied}
+use Rattle.history.proofs.Updates.{updated-applied}
 use Rattle.history.proofs.update.update_table.Goals as goal
 
 pub returns-in-Count : goal.returns-in-Count
