@@ -1,13 +1,13 @@
--- A build's refusals and what it leaves: a main table of the wrong size, the list's fault, no room, or the table in both rows.
+-- A build: the list's fault, or the table of the list's ranges in both rows.
 use Prim.Native.Nat.{ℕ, ◌^◌, ◌≤◌, ◌<◌}
-use mathlib.Core.Path.{◌≡◌, sym, ◌∙◌, ap}
+use mathlib.Core.Path.{◌≡◌, sym, ◌∙◌}
 use mathlib.Core.List.{List, map}
 use native.Mathlib.Omega.{arith}
-use borrow.Author.Tests.{lt-ltb, le-ltb, eq-eqb, ne_eqb}
+use borrow.Author.Tests.{eq-eqb}
 use lib.ListN.{length, get_or, take, drop, length-map, length-append}
 use lib.Seq.{length-take-le, take_at}
 use Rattle.route.specs.Limits.{max_routes}
-use Rattle.route.specs.Refusals.{fine, fault, Answer, value, refused, unless_fault, room_refusal, size_refusal}
+use Rattle.route.specs.Refusals.{fine, fault, Answer, value, refused, unless_fault}
 use Rattle.route.specs.Lists.{routes, rows_fault}
 use Rattle.route.proofs.Accepted.{rows_of_set}
 use Rattle.route.proofs.Entries.{routes-length, routes-addresses}
@@ -19,30 +19,13 @@ use Rattle.ranges.specs.Builds.{output_after, table_of, ranges_answer, IsBuilt a
 use Rattle.ranges.proofs.Rooms.{built-roomy}
 use Rattle.ranges.proofs.Rows.{rows_say}
 use Rattle.ranges.proofs.RangesAgree.{ranges_few, ranges_fine}
-use Rattle.dxr.specs.Dxr.{table_words, table_main}
 use Rattle.dxr.specs.Builds.{IsBuilt}
 use Rattle.dxr.specs.Splits.{Split}
 use Rattle.dxr.specs.Loops.{Splittable, IsSplit}
 use Rattle.dxr.proofs.DxrAgrees.{room_for_all}
 
--- a table of ranges, for which there is too little room or enough
-module _ {W S : ℕ} {t : List Range} {ms ws : List ℕ} {count : ℕ} (is : count ≡ length (table_words W S t)) where
-  pub split-short : length ws < count → IsSplit W S t ms ws (refused room_refusal 0) ms ws
-  split-short l =
-      let e = lt-ltb (length ws) (length (table_words W S t)) (rw is at l) in
-      record { answers = rw e; main = rw e; words = rw e }
-
-  pub split_done : count ≤ length ws → {ms' ws' : List ℕ} → ms' ≡ overwritten (table_main W S t) ms → ws' ≡ overwritten (table_words W S t) ws →
-      IsSplit W S t ms ws (value count) ms' ws'
-  split_done l main words =
-      let e = le-ltb (length ws) (length (table_words W S t)) (rw is at l) in
-      record { answers = rw e (ap value is); main = rw e main; words = rw e words }
-
--- a build: the main table is of another size, the list has a fault, or its ranges are split
+-- a build: the list has a fault, or its ranges are split
 module _ {W S : ℕ} {ad ns hs ms ws : List ℕ} where
-  pub built-sized : (length ms ≡ 2 ^ S → ⊥) → IsBuilt W S ad ns hs ms ws (refused size_refusal 0) ms ws
-  built-sized n = let e = ne_eqb (length ms) (2 ^ S) n in record { answers = rw e; main = rw e; words = rw e }
-
   module _ (size : length ms ≡ 2 ^ S) where
     pub built-refused : {n p : ℕ} → fault n p ≡ rows_fault W ad ns hs → IsBuilt W S ad ns hs ms ws (refused n p) ms ws
     built-refused f =

@@ -1,18 +1,18 @@
 -- The entries that a chunk's ranges make, and their words, by place; whether all are short; what is stored of them.
 use Prim.Native.Nat.{ℕ, zero, suc, ◌+◌, ◌-◌, ◌*◌, ◌%◌, ◌≤◌, ◌<◌}
 use mathlib.Core.Path.{◌≡◌, refl, sym, ◌∙◌, ap}
-use mathlib.Core.Bool.{Bool, true, false}
+use mathlib.Core.Bool.{Bool, true}
 use mathlib.Core.List.{List, [], ◌∷◌}
 use native.Mathlib.Omega.{arith}
-use borrow.Rule.Slice.PartMut.{mid_of, put_mid, mid_len}
-use lib.ListN.{length, get_or, drop, length-map, drop_of_length-le, get_or-map, get_or-eq_default}
+use borrow.Rule.Slice.PartMut.{put_mid}
+use lib.ListN.{length, get_or, drop, length-map, get_or-map, get_or-eq_default}
 use lib.Dec.{eqb, leb}
 use lib.Seq.{sets}
 use Rattle.route.specs.Limits.{max_hop}
 use Rattle.route.proofs.Tests.{orders, and_parts, all_three}
 use Rattle.ranges.specs.Ranges.{Range, range, ranges}
 use Rattle.ranges.specs.Loops.{range_at}
-use Rattle.ranges.proofs.Rows.{ranges-at, ranges-length, ranges-get}
+use Rattle.ranges.proofs.Rows.{ranges-length, ranges-get}
 use Rattle.dxr.specs.Dxr.{fits_short, all_short, long_entry, long_words, short_entry, short_words, encoded, words, pointer, main_word}
 use Rattle.dxr.specs.Dxr.{part_length}
 use Rattle.dxr.specs.Loops.{entry_from, entries_from, Fits, Encodable, HasRoom}
@@ -145,9 +145,6 @@ module _ {b : ℕ} {ss hs ws : List ℕ} {used : ℕ} (h : HasRoom b ss hs ws us
     part-many : used + n - used ≡ n
     part-many = omega arith
 
-    pub stored-part : length (mid_of used (used + n - used) ws) ≡ part_length form (length ss)
-    stored-part = mid_len used (used + n) ws stored-end ∙ omega arith
-
     -- put back, they are the words written behind those that are used
     in_place : put_mid used (used + n - used) ws (encoded form (entries_from b ss hs)) ≡ sets ws used (encoded form (entries_from b ss hs))
     in_place =
@@ -170,14 +167,3 @@ module _ {b : ℕ} {ss hs ws : List ℕ} {used : ℕ} (h : HasRoom b ss hs ws us
 pub record ShortTo (b : ℕ) (ss hs : List ℕ) (i : ℕ) : Type 0 where
   pub equal : length ss ≡ length hs
   pub left : all_short (entries_from b (drop i ss) (drop i hs)) ≡ all_short (entries_from b ss hs)
-
-module _ {b : ℕ} {ss hs : List ℕ} {i : ℕ} (h : ShortTo b ss hs i) where
-  module _ (l : i < length ss) {r : Range} (is : r ≡ entry_from b (range_at ss hs i)) where
-    pub short-stop : fits_short r ≡ false → false ≡ all_short (entries_from b ss hs)
-    short-stop e = let e' = rw is at e in rw (ranges-at ss hs i h.equal l, e') at h.left
-
-    pub short-turn : fits_short r ≡ true → ShortTo b ss hs (i + 1)
-    short-turn e = let e' = rw is at e in record { equal = h.equal; left = rw (ranges-at ss hs i h.equal l, e') at h.left }
-
-  pub short-end : length ss ≤ i → true ≡ all_short (entries_from b ss hs)
-  short-end l = rw (drop_of_length-le ss l) at h.left

@@ -4,7 +4,7 @@ pub mod Chunks
 -- Words: what they encode is read back.
 pub mod ChunkWords
 pub mod DxrTable
--- The room that the words need, and DXR's part of demand 2.
+-- The room that the words need, and that the table of a set answers as the set does.
 pub mod ChunkBounds
 pub mod Room
 pub mod DxrAgrees

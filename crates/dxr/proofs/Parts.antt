@@ -93,10 +93,6 @@ module _ {W S c : ℕ} {ss : List ℕ} {p : Part} (is : IsPart W S c ss p) where
     pub part-few : length (part ss) < 16384
     part-few = omega (arith, size ss part_lies.1, part_lies, rows.few)
 
-    -- what a chunk's function asks of the two parts
-    pub part-ready : {ps ph : List ℕ} → ps ≡ part ss → ph ≡ part hs → (length ps ≡ length ph) × (0 < length ps) × (length ps < 16384)
-    part-ready a b = rw (a, b) (part-equal, part-some, part-few)
-
     pub chunk_part : chunk W S (ranges ss hs) c ≡ entries_from (c * chunk_size W S) (part ss) (part hs)
     chunk_part =
         let b = c * chunk_size W S in

@@ -1,26 +1,22 @@
 -- The passes over a range table, from one chunk in which a range starts to the next: which chunks and ranges are passed, how many words
 -- there are, what is written.
 use Prim.Native.Nat.{ℕ, zero, suc, ◌+◌, ◌-◌, ◌*◌, ◌/◌, ◌^◌, ◌≤◌, ◌<◌}
-use mathlib.Core.Path.{◌≡◌, refl, sym, ◌∙◌, ap}
+use mathlib.Core.Path.{◌≡◌, sym, ◌∙◌, ap}
 use mathlib.Core.List.{List, [], ◌∷◌, ◌++◌, append-nil, append_assoc}
 use native.Mathlib.Omega.{arith}
-use native.Mathlib.Nat.{add-zero, div-add-mod', mod-lt, le-div_iff_mul-le}
+use native.Mathlib.Nat.{add-zero, div-add-mod', le-div_iff_mul-le}
 use native.Mathlib.Numerals.{add-one}
-use lib.Dec.{eqb}
 use lib.ListN.{length, get_or, set, replicate, length-append, replicate-append-replicate}
 use lib.Pow.{pow_pos}
 use lib.Seq.{length-sets, sets}
-use Rattle.route.proofs.Tests.{orders, by_test}
-use Rattle.ranges.specs.Ranges.{Range, ranges, starts_of}
+use Rattle.ranges.specs.Ranges.{Range, ranges}
 use Rattle.route.specs.Rows.{overwritten}
-use Rattle.ranges.proofs.Rows.{starts_say}
 use Rattle.dxr.specs.Dxr.{chunk_size, chunk, words, main_word, all_words, main_words, table_words, table_main}
 use Rattle.dxr.specs.Splits.{Split}
 use Rattle.dxr.specs.Loops.{entries_from, HasRoom, Splittable}
 use Rattle.dxr.specs.Shown.{IsPart, IsStored}
 use Rattle.dxr.specs.declared.build.Part.{Part}
 use Rattle.dxr.specs.declared.chunk.Stored.{Stored}
-use Rattle.dxr.proofs.Rising.{fine-rises}
 use Rattle.dxr.proofs.Rows.{sets_more, sets-front}
 use Rattle.dxr.proofs.DxrTable.{chunk_there, fit, stands, main_length}
 use Rattle.dxr.proofs.Parts.{part, part-equal, part-some, part-few, chunk_part, alone-words, alone-main}
@@ -32,12 +28,6 @@ pub record ReachedTo (W S : ℕ) (ss hs : List ℕ) (from c : ℕ) : Type 0 wher
   pub within : from < length ss
   pub start : get_or ss from 0 ≤ c * chunk_size W S
   pub next : from + 1 < length ss → c * chunk_size W S ≤ get_or ss (from + 1) 0
-
-pub reached-start : {W S : ℕ} {ss hs : List ℕ} → Splittable W S ss hs → ReachedTo W S ss hs 0 0
-reached-start {ss = ss} {hs} h =
-    let r = fine-rises (ranges ss hs) h.rules in
-    let e = sym (starts_say ss hs h.equal) ∙ ap starts_of r.whole in
-    record { rows = h; upto = omega arith; within = rw e (omega arith); start = rw e (omega arith); next = λ l. omega arith }
 
 -- the chunks before chunk d in which no range starts
 module _ {W S : ℕ} {ss hs : List ℕ} {from c : ℕ} (h : ReachedTo W S ss hs from c) where
@@ -61,16 +51,6 @@ module _ {W S : ℕ} {ss hs : List ℕ} {from c : ℕ} (h : ReachedTo W S ss hs 
 
     pub next-free : Free next_chunk
     next-free m = omega (arith, div-add-mod' (get_or ss (from + 1) 0) (chunk_size W S))
-
-    -- its ranges end behind the next one
-    pub next-ends : {p : Part} → IsPart W S next_chunk ss p → from ≤ p.first → from + 1 < p.end
-    next-ends {p} is le =
-        let x = get_or ss (from + 1) 0 in
-        by_test (eqb p.end (from + 1))
-        (λ e. let same : p.end - 1 + 1 ≡ from + 1 = omega (orders, is.some) in
-        let above = (rw same at is.last.next) l in
-        absurd (omega (arith, div-add-mod' x (chunk_size W S), mod-lt x (pow_pos (W - S)))))
-        (λ e. omega (orders, is.some))
 
   free_at : (k : ℕ) → Free (c + suc k) → Free (c + k + 1)
   free_at k f l = let e : c + suc k ≡ c + k + 1 = omega arith in rw e at (f l)
@@ -163,15 +143,8 @@ pub record WrittenTo (W S : ℕ) (ss hs ms₀ ws₀ ms ws : List ℕ) (from used
   pub main : ms ≡ sets ms₀ 0 (main_words W S (ranges ss hs) c)
   pub words : ws ≡ sets ws₀ 0 (all_words W S (ranges ss hs) c)
 
-pub written_start : {W S : ℕ} {ss hs ms ws : List ℕ} → Splittable W S ss hs → length ms ≡ 2 ^ S →
-    length (table_words W S (ranges ss hs)) ≤ length ws → WrittenTo W S ss hs ms ws ms ws 0 0 0
-written_start h size room = record { reached = reached-start h; size = size; room = room; count = refl; main = refl; words = refl }
-
 module _ {W S : ℕ} {ss hs ms₀ ws₀ ms ws : List ℕ} {from used c : ℕ} (h : WrittenTo W S ss hs ms₀ ws₀ ms ws from used c) where
-  -- neither row changes its length
-  pub main-length : length ms ≡ 2 ^ S
-  main-length = rw (h.main, length-sets) h.size
-
+  -- the row of words keeps its length
   pub words-length : length ws ≡ length ws₀
   words-length = rw (h.words, length-sets)
 

@@ -35,6 +35,3 @@ module _ {number to : ℕ} {row₀ : List ℕ} {from : ℕ} {row : List ℕ} {i 
   filled-turn l =
       let more : to - i ≡ suc (to - suc i) = omega arith in
       record { within = omega arith; size = simp length-set h.size; left = rw add-one (rw more at h.left) }
-
-  pub filled-end : to ≤ i → row ≡ sets row₀ from (replicate (to - from) number)
-  filled-end l = let none : to - i ≡ 0 = omega arith in rw none at h.left

@@ -1,23 +1,21 @@
 -- The lookup's pass over a part: the entry at each place, what the pass finds of the entries, and that this gives the answer.
-use Prim.Native.Nat.{ℕ, zero, suc, ◌+◌, ◌-◌, ◌*◌, ◌/◌, ◌%◌, ◌≤◌, ◌<◌}
+use Prim.Native.Nat.{ℕ, zero, suc, ◌+◌, ◌*◌, ◌/◌, ◌%◌, ◌≤◌, ◌<◌}
 use mathlib.Core.Path.{◌≡◌, refl, sym, ◌∙◌, ap}
 use mathlib.Core.Bool.{Bool, true, false, cond, ◌&&◌, and_assoc, and-true}
 use mathlib.Core.List.{List, [], ◌∷◌}
 use native.Mathlib.Omega.{arith}
 use native.Mathlib.Numerals.{add-one}
-use borrow.Author.Tests.{eqb-true, eq-eqb, ne_eqb, lt-ltb, le-leb, lt-leb}
+use borrow.Author.Tests.{eqb-true, lt-ltb, le-leb}
 use lib.Dec.{eqb, leb, ltb}
-use lib.ListN.{length, get_or, take, drop, length-drop, drop_of_length-le, get_or-map}
+use lib.ListN.{length, get_or, drop, length-drop, drop_of_length-le, get_or-map}
 use lib.Seq.{drop-cons, get_or-take, length-take-le}
-use Rattle.route.specs.Limits.{max_hop}
-use Rattle.route.specs.Refusals.{value, refused, image_refusal}
+use Rattle.route.specs.Refusals.{value}
 use Rattle.route.proofs.Tests.{orders, by_test, and_parts, all_three}
 use Rattle.ranges.specs.Ranges.{Range, range, hop_at}
 use Rattle.ranges.specs.Loops.{below}
 use Rattle.ranges.proofs.Counting.{StartsRise, below-within, hop_at-below}
 use Rattle.dxr.specs.Dxr.{long_range, short_range, long_entries, short_entries, decoded, part_length, starts_rise, entries_fine}
-use Rattle.dxr.specs.Dxr.{kind_in, count_in, position_in, is_short, entries_of}
-use Rattle.dxr.specs.Loops.{half_at, entry_at, entries_answer, chunk_answer}
+use Rattle.dxr.specs.Loops.{half_at, entry_at, entries_answer}
 use Rattle.dxr.specs.Shown.{pass_first, pass_next, IsPassed}
 use Rattle.dxr.specs.declared.lookup.Pass.{Pass}
 
@@ -141,54 +139,7 @@ module _ {size key : ℕ} {es : List Range} {p : Pass} (h : IsPassed size key es
   passed-within l = omega (arith, h.many, below-within (drop 1 es) key, length-drop 1 es)
 
   module _ (c : ℕ) where
-    pub passed-stop : p.fine ≡ false → refused image_refusal c ≡ entries_answer size c es key
-    passed-stop e = rw (sym h.rules ∙ e)
-
     pub passed-hop : p.fine ≡ true → {r : Range} → r ≡ get_or es p.below (range 0 0) → value r.hop ≡ entries_answer size c es key
     passed-hop e is =
         let fine = sym h.rules ∙ e in
         rw (is, h.many, fine, fine_hop size key es fine)
-
--- a main word: a hop, a kind that there is not, too few entries, a part that is not inside the range words, or a part
-module _ (size c w : ℕ) (ws : List ℕ) (key : ℕ) where
-  pub direct-stop : kind_in w ≡ 0 → max_hop < w → refused image_refusal c ≡ chunk_answer size c w ws key
-  direct-stop k l = rw (eq-eqb (kind_in w) 0 k, lt-leb w max_hop l)
-
-  pub direct-hop : kind_in w ≡ 0 → w ≤ max_hop → value w ≡ chunk_answer size c w ws key
-  direct-hop k l = rw (eq-eqb (kind_in w) 0 k, le-leb w max_hop l)
-
-  pub kind-stop : kind_in w ≡ 3 → refused image_refusal c ≡ chunk_answer size c w ws key
-  kind-stop k = rw k
-
-  module _ (some : 0 < kind_in w) (two : kind_in w < 3) where
-    pub count-stop : count_in w < 2 → refused image_refusal c ≡ chunk_answer size c w ws key
-    count-stop l = rw (ne_eqb (kind_in w) 0 (λ e. omega arith), lt-ltb (kind_in w) 3 two, lt-leb 2 (count_in w) l)
-
-    module _ (many : 2 ≤ count_in w) where
-      pub part-stop : length ws < position_in w + part_length (is_short w) (count_in w) → refused image_refusal c ≡ chunk_answer size c w ws key
-      part-stop l = rw (
-        ne_eqb (kind_in w) 0 (λ e. omega arith),
-        lt-ltb (kind_in w) 3 two,
-        le-leb 2 (count_in w) many,
-        lt-leb (position_in w + part_length (is_short w) (count_in w)) (length ws) l,
-      )
-
-      pub part-answer : position_in w + part_length (is_short w) (count_in w) ≤ length ws →
-          entries_answer size c (entries_of w ws) key ≡ chunk_answer size c w ws key
-      part-answer l = rw (
-        ne_eqb (kind_in w) 0 (λ e. omega arith),
-        lt-ltb (kind_in w) 3 two,
-        le-leb 2 (count_in w) many,
-        le-leb (position_in w + part_length (is_short w) (count_in w)) (length ws) l,
-      )
-
--- a part as it is handed on, from a position up to an end
-module _ (ws : List ℕ) (p n : ℕ) {m : ℕ} (is : m ≡ n) where
-  size_is : p + m - p ≡ n
-  size_is = omega arith
-
-  pub part-is : take (p + m - p) (drop p ws) ≡ take n (drop p ws)
-  part-is = rw size_is
-
-  pub part-size : p + m ≤ length ws → length (take (p + m - p) (drop p ws)) ≡ n
-  part-size l = rw part-is (length-take-le n (drop p ws) (simp length-drop (omega arith)))

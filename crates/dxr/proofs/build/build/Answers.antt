@@ -1,0 +1,26 @@
+-- The list's fault, or the table of the list's ranges.
+use Rattle.std.proofs.Common.{◌≤◌, ap, arith}
+use Rattle.route.specs.Shown.{counted}
+use Rattle.ranges.specs.Ranges.{max_ranges}
+use Rattle.dxr.proofs.DxrTable.{split-16}
+use Rattle.dxr.proofs.Builds.{built-refused, built-split, made_fault, made-fine, made_table, made-splittable}
+use Rattle.dxr.proofs.build.build.Goals as goal
+
+-- the rows have room for any ranges
+roomy : max_ranges ≤ 8193
+roomy = omega arith
+
+pub returns-in-Refused : goal.returns-in-Refused
+returns-in-Refused c = built-refused c.if-main-ne-MAIN_WORDS.false (made_fault roomy roomy c.build.ensures (ap counted c.in-Refused.is))
+
+pub split-requires : goal.split-requires
+split-requires c = (
+  made-splittable roomy roomy c.build.ensures (ap counted c.in-Count.is) 16 split-16 (λ i. (c.type_inv.addresses i).fits),
+  c.if-main-ne-MAIN_WORDS.false,
+)
+
+pub returns-in-Count : goal.returns-in-Count
+returns-in-Count c =
+    let e = ap counted c.in-Count.is in
+    built-split c.if-main-ne-MAIN_WORDS.false (made-fine roomy roomy c.build.ensures e)
+    (rw (made_table roomy roomy c.build.ensures e) at c.split.ensures)
