@@ -1,2 +1,0 @@
--- What the C interface's answers say.
-pub mod Outcomes
