@@ -3,7 +3,7 @@
 -- One way by induction on the entries: the tests of the first leave its facts, and the rest was compared with it. The other way each
 -- test comes out right by those facts.
 use Prim.Native.Nat.{ℕ, ◌+◌, ◌%◌, ◌≤◌, ◌<◌}
-use mathlib.Core.Path.{◌≡◌, refl, sym, subst⁻¹, ◌∙◌}
+use mathlib.Core.Path.{◌≡◌, refl, sym, subst⁻¹}
 use mathlib.Core.Logic.{◌↔◌}
 use mathlib.Core.Bool.{false}
 use mathlib.Core.List.Memᴰ
@@ -15,13 +15,13 @@ use native.Mathlib.Omega.{arith}
 use borrow.Author.Tests.{eqb-true, eq-eqb, ne_eqb, leb-true, le-leb, le-ltb, not-false}
 use Rattle.route.specs.Limits.{max_hop, max_routes}
 use Rattle.route.specs.Rule.{Route, span}
-use Rattle.route.specs.Refusals.{Verdict, Answer, value, refused, unless_fault, fine, fault, fault_if, entry_fault, prefix_fault, hop_fault, length_refusal, twice_refusal}
+use Rattle.route.specs.Refusals.{Verdict, value, fine, fault_if, entry_fault, prefix_fault, hop_fault, length_refusal, twice_refusal}
 use Rattle.route.specs.RightHop.{◌∈◌}
 use Rattle.route.specs.Lists.{same_prefix, has_prefix, list_fault, routes, EqualRows, rows_size_fault, rows_fault, list_check}
 use Rattle.route.specs.RowsOfSet.{Valid, Distinct, RowsOfSet}
 use Rattle.route.proofs.Members.{any-so}
 use Rattle.route.proofs.RouteSet.{RouteSet, route_set}
-use Rattle.route.proofs.Tests.{orders, clash, both, neither, not-both, or_parts, all_three, in_turn, passed, answered, refuses}
+use Rattle.route.proofs.Tests.{orders, clash, both, neither, not-both, or_parts, all_three, in_turn, passed, answered}
 
 -- what the tests of a prefix and of a hop leave
 pub prefix-good : (W i a n : ℕ) → prefix_fault W i a n ≡ fine → (n ≤ W) × (a % span W n ≡ 0)
@@ -153,15 +153,8 @@ accepted_set W ad ns hs e = let s = (rows_of_set W ad ns hs).0 e in route_set W 
 
 -- what is counted of rows of a right size, and what their whole parts have
 module _ {ad ns hs : List ℕ} (s : Sized ad ns hs) where
-  pub sized-counted : (W : ℕ) {v : Verdict} {a : Answer} → v ≡ list_fault W 0 [] (routes ad ns hs) → a ≡ unless_fault v (value (length ad)) →
-      a ≡ list_check W ad ns hs
-  sized-counted W f g = g ∙ rw (f, s.entries W)
-
   abbrev pub part : List ℕ → List ℕ
   part row = take (length ad) row
-
-  pub parts-equal : EqualRows (part ad) (part ns) (part hs)
-  parts-equal = rw (s.addresses, s.lengths, s.hops) s.equal
 
   pub parts-fault : (W : ℕ) {v : Verdict} → v ≡ list_fault W 0 [] (routes (part ad) (part ns) (part hs)) → v ≡ list_fault W 0 [] (routes ad ns hs)
   parts-fault W e = rw (s.addresses, s.lengths, s.hops) at e
@@ -170,6 +163,3 @@ module _ {ad ns hs : List ℕ} (s : Sized ad ns hs) where
 module _ (W : ℕ) (ad ns hs : List ℕ) where
   pub counted-fine : {n : ℕ} → value n ≡ list_check W ad ns hs → rows_fault W ad ns hs ≡ fine
   counted-fine e = answered (rows_fault W ad ns hs) (value (length ad)) e
-
-  pub refused-fault : {n p : ℕ} → refused n p ≡ list_check W ad ns hs → fault n p ≡ rows_fault W ad ns hs
-  refused-fault e = refuses (rows_fault W ad ns hs) (length ad) e

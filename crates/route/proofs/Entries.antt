@@ -1,22 +1,19 @@
 -- The loops over the entries of a list: what each has found at entry i, and that a turn keeps it.
-use Prim.Native.Nat.{ℕ, zero, suc, ◌+◌, ◌-◌, ◌≤◌, ◌<◌}
+use Prim.Native.Nat.{ℕ, zero, suc, ◌+◌, ◌≤◌, ◌<◌}
 use mathlib.Core.Path.{◌≡◌, refl, ap}
-use mathlib.Core.Bool.{Bool, true, false}
+use mathlib.Core.Bool.{true, false}
 use mathlib.Core.List.Memᴰ
 use mathlib.Core.List.{List, [], ◌∷◌}
 use native.Mathlib.Omega.{arith}
 use native.Mathlib.Numerals.{add-one}
-use borrow.Author.Tests.{eqb-true}
-use lib.Dec.{eqb}
 use lib.ListN.{length, drop, get_or, drop_of_length-le}
-use lib.Seq.{drop-cons, drop-length}
-use Rattle.route.specs.Rule.{Route, route, matches, Match, nothing, improved, longest}
+use lib.Seq.{drop-cons}
+use Rattle.route.specs.Rule.{Route, route, Match, longest}
 use Rattle.route.specs.Refusals.{fine, fault, fault_if, ◌then◌, entry_fault, twice_refusal}
-use Rattle.route.specs.Lists.{EqualRows, routes, same_prefix, has_prefix, list_fault}
+use Rattle.route.specs.Lists.{EqualRows, routes, has_prefix, list_fault}
 use Rattle.route.specs.RightHop.{◌∈◌}
 use Rattle.route.specs.Loops.{before, route_at}
 use Rattle.route.proofs.Members.{each_of}
-use Rattle.route.proofs.Tests.{and_parts}
 
 -- the entries from entry i on begin with entry i
 pub routes-at : (ad ns hs : List ℕ) (i : ℕ) → EqualRows ad ns hs → i < length ad →
@@ -60,23 +57,6 @@ pub record LongestFrom (W : ℕ) (ad ns hs : List ℕ) (q : ℕ) (m : Match) (i 
   pub equal : EqualRows ad ns hs
   pub right : m ≡ longest W (routes (drop i ad) (drop i ns) (drop i hs)) q
 
-pub longest-start : {W : ℕ} {ad ns hs : List ℕ} {q : ℕ} → EqualRows ad ns hs → LongestFrom W ad ns hs q nothing (length ad)
-longest-start {ad = ad} e = record { within = omega arith; equal = e; right = rw (drop-length ad) }
-
-module _ {W : ℕ} {ad ns hs : List ℕ} {q : ℕ} {m : Match} {i : ℕ} (p : LongestFrom W ad ns hs q m i) where
-  pub longest-turn : {r : Route} {hit : Bool} {next : Match} → 0 < i → r ≡ route_at ad ns hs (i - 1) → hit ≡ matches W r.address r.length q →
-      next ≡ improved hit r m → LongestFrom W ad ns hs q next (i - 1)
-  longest-turn l e h n =
-      let back : i - 1 + 1 ≡ i = omega arith in
-      record {
-        within = omega arith;
-        equal = p.equal;
-        right = rw (n, h, e, routes-at ad ns hs (i - 1) p.equal (omega arith), back, p.right);
-      }
-
-  pub longest-end : i ≤ 0 → m ≡ longest W (routes ad ns hs) q
-  longest-end l = let z : i ≡ 0 = omega arith in rw z at p.right
-
 -- entry i's verdict, then what comes after it
 list_at : (W : ℕ) (ad ns hs : List ℕ) (i : ℕ) → EqualRows ad ns hs → i < length ad →
     list_fault W i (before (route_at ad ns hs) i) (routes (drop i ad) (drop i ns) (drop i hs))
@@ -93,9 +73,6 @@ pub record CheckedBefore (W : ℕ) (ad ns hs : List ℕ) (i : ℕ) : Type 0 wher
 
 -- r is entry i
 module _ {W : ℕ} {ad ns hs : List ℕ} {i : ℕ} (s : CheckedBefore W ad ns hs i) (l : i < length ad) {r : Route} (is : r ≡ route_at ad ns hs i) where
-  pub checked-fault : {n p : ℕ} → fault n p ≡ entry_fault W i r → fault n p ≡ list_fault W 0 [] (routes ad ns hs)
-  checked-fault e = rw (list_at W ad ns hs i s.equal l, ← (rw is at e)) at s.left
-
   pub checked-twice : fine ≡ entry_fault W i r → has_prefix r (before (route_at ad ns hs) i) ≡ true → fault twice_refusal i ≡ list_fault W 0 [] (routes ad ns hs)
   checked-twice e t = rw (list_at W ad ns hs i s.equal l, ← (rw is at e), rw is at t) at s.left
 
@@ -108,9 +85,3 @@ module _ {W : ℕ} {ad ns hs : List ℕ} {i : ℕ} (s : CheckedBefore W ad ns hs
 
 pub checked-end : {W : ℕ} {ad ns hs : List ℕ} {i : ℕ} → CheckedBefore W ad ns hs i → length ad ≤ i → fine ≡ list_fault W 0 [] (routes ad ns hs)
 checked-end {ad = ad} s l = rw (drop_of_length-le ad l) at s.left
-
--- two entries of one prefix
-pub one-prefix : (r s : Route) → same_prefix r s ≡ true → (r.address ≡ s.address) × (r.length ≡ s.length)
-one-prefix r s e =
-    let p = and_parts (eqb r.address s.address) (eqb r.length s.length) e in
-    (eqb-true _ _ p.0, eqb-true _ _ p.1)

@@ -5,7 +5,7 @@ use mathlib.Core.List.{List}
 use native.Mathlib.Omega.{arith}
 use borrow.Author.Tests.{ne_eqb}
 use Rattle.route.specs.Rule.{Match, best, longest, hop_of}
-use Rattle.route.specs.Refusals.{value, refused, fine, fault}
+use Rattle.route.specs.Refusals.{value, fine}
 use Rattle.route.specs.Lists.{routes, rows_fault, list_lookup}
 use Rattle.route.specs.Shown.{shown}
 use Rattle.route.specs.declared.Hop.{Hop}
@@ -18,9 +18,6 @@ pub via-shown : (h : Hop) → 0 < h.0 → shown (Via h) ≡ value h.0
 via-shown h l = rw (ne_eqb h.0 0 (λ e. omega arith))
 
 module _ (W : ℕ) (ad ns hs : List ℕ) (q : ℕ) where
-  pub lookup-refused : {n p : ℕ} → fault n p ≡ rows_fault W ad ns hs → refused n p ≡ list_lookup W ad ns hs q
-  lookup-refused e = rw (← e)
-
   module _ (ok : rows_fault W ad ns hs ≡ fine) where
     pub lookup-found : {m : Match} → m ≡ longest W (routes ad ns hs) q → value (hop_of m) ≡ list_lookup W ad ns hs q
     lookup-found e = rw (ok, ← e)

@@ -62,10 +62,6 @@ pub record NotedBefore {A : Type 0} (same : A → A → Bool) (address len : A �
   pub words : 0 < length row
   pub each : (x : A) → any (same x) (before at i) ≡ true → is_noted row (address x) (len x) ≡ true
 
-pub noted-start : {A : Type 0} {same : A → A → Bool} {address len : A → ℕ} {at : ℕ → A} {row : List ℕ} → 0 < length row →
-    NotedBefore same address len at row 0
-noted-start l = record { words = l; each = λ x k. clash k refl }
-
 module _ {A : Type 0} {same : A → A → Bool} {address len : A → ℕ} {at : ℕ → A} {row : List ℕ} {i : ℕ} (h : NotedBefore same address len at row i) where
   pub noted-none : (x : A) → is_noted row (address x) (len x) ≡ false → any (same x) (before at i) ≡ false
   noted-none x e = is_false (any (same x) (before at i)) (λ k. clash (h.each x k) e)

@@ -3,7 +3,6 @@ use Prim.Native.Nat.{ℕ, zero, suc, ◌+◌, ◌-◌, ◌≤◌, ◌<◌}
 use mathlib.Core.Path.{◌≡◌, sym, ◌∙◌}
 use mathlib.Core.Bool.{Bool, true, false, ◌||◌, or-true, or_assoc}
 use native.Mathlib.Omega.{arith}
-use native.Mathlib.Numerals.{add-one}
 use Rattle.route.specs.Lists.{any}
 use Rattle.route.specs.Loops.{before, places_from}
 
@@ -11,10 +10,6 @@ use Rattle.route.specs.Loops.{before, places_from}
 pub record NoneBefore {A : Type 0} (p : A → Bool) (at : ℕ → A) (i j : ℕ) : Type 0 where
   pub within : j ≤ i
   pub none : any p (before at j) ≡ false
-
-module _ {A : Type 0} {p : A → Bool} {at : ℕ → A} {i j : ℕ} (u : NoneBefore p at i j) where
-  pub none_end : i ≤ j → any p (before at i) ≡ false
-  none_end l = let z : i ≡ j = omega arith in rw z u.none
 
 -- what stands before place m + k stands before place m or at the k places from it on
 any-before : {A : Type 0} (p : A → Bool) (at : ℕ → A) (m k : ℕ) → any p (before at (m + k)) ≡ (any p (places_from at m k) || any p (before at m))
@@ -25,9 +20,6 @@ any-before p at m (suc k) =
 
 -- a search one place at a time; x is what stands at place j
 module _ {A : Type 0} {p : A → Bool} {at : ℕ → A} {i j : ℕ} (u : NoneBefore p at i j) (l : j < i) {x : A} (is : x ≡ at j) where
-  pub none-turn : p x ≡ false → NoneBefore p at i (j + 1)
-  none-turn e = record { within = omega arith; none = rw (add-one j, ← is, e) u.none }
-
   pub none-hit : p x ≡ true → any p (before at i) ≡ true
   none-hit e =
       let z : suc j + (i - suc j) ≡ i = omega arith in
@@ -38,9 +30,6 @@ pub record FoundFrom {A : Type 0} (p : A → Bool) (at : ℕ → A) (m i j : ℕ
   pub behind : m ≤ j
   pub within : j ≤ i
   pub is : found ≡ any p (places_from at m (j - m))
-
-pub from_start : {A : Type 0} {p : A → Bool} {at : ℕ → A} {m i : ℕ} → m ≤ i → FoundFrom p at m i m false
-from_start {m = m} l = let z : m - m ≡ 0 = omega arith in record { behind = omega arith; within = l; is = rw z }
 
 -- two blocks, one behind the other
 any-joined : {A : Type 0} (p : A → Bool) (at : ℕ → A) (m k n : ℕ) →
@@ -63,9 +52,6 @@ module _ {A : Type 0} {p : A → Bool} {at : ℕ → A} {m i j : ℕ} {found : B
       let more : k - m ≡ j - m + (k - j) = omega (arith, f.behind) in
       let place : m + (j - m) ≡ j = omega (arith, f.behind) in
       record { behind = omega (arith, f.behind); within = n; is = rw (more, any-joined p at m (j - m) (k - j), place, e, f.is) }
-
-  pub from_end : i ≤ j → found ≡ any p (places_from at m (i - m))
-  from_end l = let z : i ≡ j = omega (arith, f.within) in rw z f.is
 
   -- what was found stands there, whatever is behind it
   pub from-hit : found ≡ true → any p (places_from at m (i - m)) ≡ true
