@@ -1,13 +1,12 @@
 -- The chain of copies: how many writes it has, and the loops that count and put them.
-use Rattle.std.proofs.Common.{◌≡◌, ℕ, zero, suc, ◌+◌, ◌*◌, ◌<◌, ◌≤◌, Bool, true, false, cond, List, [], ◌∷◌, length, sym, refl, ap, ◌∙◌, arith, length-set}
+use Rattle.std.proofs.Common.{◌≡◌, ℕ, zero, suc, ◌+◌, ◌*◌, ◌<◌, ◌≤◌, Bool, true, false, List, [], ◌∷◌, length, sym, refl, ap, ◌∙◌, arith, length-set}
 use mathlib.Core.Option.{Option, none, some}
 use lib.Seq.{sets}
 use Rattle.tcam.specs.Slots.{Cell, max_slots, cells}
-use Rattle.tcam.specs.Plans.{Write, write, first_slot, last_slot, is_some, open_after, chain, numbers}
+use Rattle.tcam.specs.Plans.{Write, write, first_slot, last_slot, open_after, chain, numbers}
 use Rattle.tcam.specs.Loops.{cell_at, edge, edge_of, lengths_from, length_at, lengths_of, ShorterBy, chain_of, moves, slot_in, EdgesOf}
 use Rattle.tcam.specs.declared.plan.Lengths.{Lengths}
 use Rattle.tcam.proofs.Rows.{length-cells, get_or-cells}
-use Rattle.tcam.proofs.Lengths.{lengths_none}
 
 -- a slot that was found is one of the table's
 first-bound : (p : Cell → Bool) (i s : ℕ) (cs : List Cell) → first_slot p i cs ≡ some s → s < i + length cs
@@ -79,20 +78,6 @@ pub record CountedMoves (edge : ℕ → Option ℕ) (r₀ r : Lengths) (w : ℕ)
   pub few : w + r.count ≤ r₀.count
   pub left : w + moves edge (lengths_of r) ≡ moves edge (lengths_of r₀)
 
-module _ {edge : ℕ → Option ℕ} {r₀ r : Lengths} {w : ℕ} (h : CountedMoves edge r₀ r w) where
-  pub moves-turn : {next : Lengths} {l n : ℕ} {o : Option ℕ} → l ≡ length_at r.up r.count r.from.0 → o ≡ edge l →
-      n ≡ cond (is_some o) 1 0 → n ≤ 1 → ShorterBy r next → CountedMoves edge r₀ next (w + n)
-  moves-turn {n = n} f e g i s =
-      let here : n ≡ cond (is_some (edge (length_at r.up r.count r.from.0))) 1 0 = rw (← f, ← e) g in
-      record {
-        within = omega (arith, h.within, s.within);
-        few = omega (arith, h.few, s.less);
-        left = omega (arith, here, rw s.is at h.left);
-      }
-
-  pub moves-end : r.count ≤ 0 → w ≡ moves edge (lengths_of r₀)
-  moves-end m = omega (arith, rw (lengths_none r.up r.count r.from.0 m) at h.left)
-
 -- w writes are in the plan; the lengths that are left and the last write give the rest of the row that is wanted, in which the chain
 -- begins at write `start`
 pub record ChainPut (W : ℕ) (ad ts row : List ℕ) (c : Cell) (all : List Write) (start : ℕ) (plan₀ plan : List ℕ) (r : Lengths) (at w : ℕ) : Type 0 where
@@ -116,23 +101,6 @@ module _ {W : ℕ} {ad ts row : List ℕ} {c : Cell} {all : List Write} {start :
       edges-next : EdgesOf W next.up (cells ad ts) row
       edges-next = rw s.same h.edges
 
-      -- the length has no entry
-      skipped : o ≡ none → chain_of r (cells ad ts) at c ≡ chain_of next (cells ad ts) at c
-      skipped n = rw (s.is, here ∙ n, s.same)
-
-      pub chain-skip : o ≡ none → ChainPut W ad ts row c all start plan₀ plan next at w
-      chain-skip n = record {
-        equal = h.equal;
-        few = h.few;
-        edges = edges-next;
-        within = omega (arith, h.within, s.within);
-        inside = h.inside;
-        room = h.room;
-        size = h.size;
-        count = rw (skipped n) at h.count;
-        left = rw (skipped n) at h.left;
-      }
-
       -- its edge entry is in slot t
       module _ {t : ℕ} (n : o ≡ some t) where
         pub chain-slot : t < length ad
@@ -140,9 +108,6 @@ module _ {W : ℕ} {ad ts row : List ℕ} {c : Cell} {all : List Write} {start :
 
         moved : chain_of r (cells ad ts) at c ≡ write at (cell_at ad ts t) ∷ chain_of next (cells ad ts) t c
         moved = rw (s.is, here ∙ n, s.same, get_or-cells ad ts t h.equal chain-slot)
-
-        pub chain-room : 3 * w + 3 ≤ length plan
-        chain-room = omega (arith, h.room, h.size, rw moved at h.count)
 
         pub chain-turn : {plan' : List ℕ} {d : Cell} → d ≡ cell_at ad ts t → plan' ≡ sets plan (3 * w) (at ∷ d.address ∷ d.tag ∷ []) →
             ChainPut W ad ts row c all start plan₀ plan' next t (w + 1)
@@ -160,13 +125,3 @@ module _ {W : ℕ} {ad ts row : List ℕ} {c : Cell} {all : List Write} {start :
               count = omega (arith, rw moved at h.count);
               left = rw (g', three) (rw moved at h.left);
             }
-
-  module _ (m : r.count ≤ 0) where
-    ends : chain_of r (cells ad ts) at c ≡ write at c ∷ []
-    ends = rw (lengths_none r.up r.count r.from.0 m)
-
-    pub chain-last : 3 * w + 3 ≤ length plan
-    chain-last = omega (arith, h.room, h.size, rw ends at h.count)
-
-    pub chain-end : {plan' : List ℕ} → plan' ≡ sets plan (3 * w) (at ∷ c.address ∷ c.tag ∷ []) → plan' ≡ sets plan₀ (3 * start) (numbers all)
-    chain-end f = f ∙ (rw ends at h.left)

@@ -1,32 +1,15 @@
 -- What the code of the download's pass keeps: how far ahead the nearest entry is, by keys, and its slot.
-use Rattle.std.proofs.Common.{◌≡◌, ℕ, ◌+◌, ◌%◌, ◌^◌, ◌<◌, ◌≤◌, true, false, ◌&&◌, ltb, leb, ◌≢◌, List, length, sym, refl, ◌∙◌, zero-le, arith, ltb-false, ltb-true, le-ltb, lt-ltb, le-leb, leb-false, leb-true}
+use Rattle.std.proofs.Common.{◌≡◌, ℕ, ◌+◌, ◌<◌, ◌≤◌, true, false, ◌&&◌, ltb, leb, ◌≢◌, List, length, sym, refl, ◌∙◌, arith, ltb-false, ltb-true, le-ltb, lt-ltb, leb-false, leb-true}
 use mathlib.Core.Option.{Option, none, some}
-use borrow.Author.Tests.{lt-leb}
 use Rattle.route.specs.PrefixOrder.{key_of}
-use Rattle.route.specs.Refusals.{Verdict, fine, fault, ◌then◌, image_refusal}
-use Rattle.tcam.specs.Slots.{Cell, cells, is_free, length_in, keeps_s1, size_fault, slot_fault}
-use Rattle.tcam.specs.Download.{From, start, past, is_to_come, is_ahead, next_in, Next, end, refusal, entry_or_end, next_unless, from_fault, download}
+use Rattle.route.specs.Refusals.{image_refusal}
+use Rattle.tcam.specs.Slots.{Cell, is_free, length_in, keeps_s1}
+use Rattle.tcam.specs.Download.{From, is_to_come, is_ahead, end, refusal, entry_or_end}
 use Rattle.tcam.specs.Loops.{cell_at, far_ahead, IsLeast, IsAheadOf}
 use Rattle.route.proofs.Tests.{by_test}
 use Rattle.route.proofs.PrefixOrder.{by_key}
 use Rattle.tcam.proofs.Cells.{used-short}
 use Rattle.tcam.proofs.Downloads.{yields, next_from, NextBefore, next-stop, next-kept, next-turn, next-end}
-
--- the least key that is still to come: from the start, and past a prefix
-pub least_start : IsLeast start 0
-least_start = record { within = omega arith; is = λ a n l. sym (le-leb 0 (key_of a n) zero-le) }
-
-pub least-past : (a n : ℕ) {least : ℕ} → a < 4294967296 → n < 64 → least ≡ key_of a n + 1 → IsLeast (past a n) least
-least-past a n {least} s l e = record {
-  within = omega arith;
-  is = λ b m i. by_key a n b m l i ∙ by_test (ltb (key_of a n) (key_of b m))
-      (λ t. t ∙ sym (le-leb least (key_of b m) (omega (arith, ltb-true (key_of a n) (key_of b m) t))))
-      (λ t. t ∙ sym (lt-leb least (key_of b m) (omega (arith, ltb-false (key_of a n) (key_of b m) t))));
-}
-
--- a difference taken round
-pub taken-round : (least key : ℕ) {r : ℕ} → least ≤ far_ahead → key < 2 ^ 64 → r < 2 ^ 64 → (r + least) % 2 ^ 64 ≡ key → IsAheadOf least key r
-taken-round least key i k s e = record { is = λ l. omega arith; far = λ l. omega arith }
 
 -- what the code keeps of the entry o: how far ahead it is, and its slot
 abbrev Keeps : List ℕ → List ℕ → ℕ → Option Cell → ℕ → ℕ → Type 0
@@ -39,10 +22,6 @@ pub record PassAt (W : ℕ) (ad ts : List ℕ) (from : From) (least nearest at i
   pub kept : Option Cell
   pub before : NextBefore W ad ts from kept i
   pub keeps : Keeps ad ts least kept nearest at
-
-pub pass-start : {W : ℕ} {ad ts : List ℕ} {from : From} {least nearest at : ℕ} → IsLeast from least → length ad ≡ length ts →
-    nearest ≡ far_ahead → PassAt W ad ts from least nearest at 0
-pass-start b e n = record { bound = b; kept = none; before = record { within = omega arith; equal = e; left = refl }; keeps = n }
 
 kept_near : (ad ts : List ℕ) (least : ℕ) (o : Option Cell) (nearest at : ℕ) → Keeps ad ts least o nearest at → nearest ≤ far_ahead
 kept_near ad ts least none nearest at k = omega arith
@@ -118,21 +97,3 @@ module _ {W : ℕ} {ad ts : List ℕ} {from : From} {least nearest at i : ℕ} (
           → entry_or_end (some (cell_at ad ts at)) ≡ next_from W ad ts from none 0
       go none k e = absurd (t k)
       go (some c) k e = rw k.2 at e
-
--- a call whose prefix has a fault, and one whose prefix has none
-module _ (W : ℕ) (ad ts : List ℕ) (from : From) {r : Next} (s : size_fault ad ts ≡ fine) where
-  pub next-refused : (n p : ℕ) → from_fault W from ≡ fault n p → r ≡ next_unless (slot_fault W 0 (cells ad ts) then fault n p) end →
-      r ≡ download W ad ts from
-  next-refused n p e h = rw (s, e) (h ∙ go (slot_fault W 0 (cells ad ts)) (entry_or_end (next_in from (cells ad ts))))
-    where
-      go : (v : Verdict) (o : Next) → next_unless (v then fault n p) end ≡ next_unless (v then fault n p) o
-      go fine o = refl
-      go (fault x y) o = refl
-
-  pub next-found : from_fault W from ≡ fine → r ≡ next_unless (slot_fault W 0 (cells ad ts)) (entry_or_end (next_in from (cells ad ts))) →
-      r ≡ download W ad ts from
-  next-found e h = rw (s, e) (h ∙ go (slot_fault W 0 (cells ad ts)) (entry_or_end (next_in from (cells ad ts))))
-    where
-      go : (v : Verdict) (o : Next) → next_unless v o ≡ next_unless (v then fine) o
-      go fine o = refl
-      go (fault x y) o = refl

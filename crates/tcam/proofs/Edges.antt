@@ -2,7 +2,7 @@
 --
 -- The pass for last slots goes from slot 0 on, the one for first slots from the last slot back, so that in both a later find replaces
 -- an earlier one. Among the slots that were visited, the last one found is then the edge, whatever is sought.
-use Rattle.std.proofs.Common.{◌≡◌, ℕ, zero, suc, ◌+◌, ◌-◌, ◌<◌, ◌≤◌, Bool, true, false, cond, not, ◌&&◌, eqb, ◌≢◌, List, length, get_or, drop, set, replicate, sym, refl, ap, ◌∙◌, add-one, arith, length-set, drop_of_length-le, get_or-set_other, get_or-set_same, eq-eqb, ne_eqb, eqb-true}
+use Rattle.std.proofs.Common.{◌≡◌, ℕ, zero, suc, ◌+◌, ◌-◌, ◌<◌, ◌≤◌, Bool, true, false, cond, not, ◌&&◌, eqb, List, length, get_or, drop, set, replicate, sym, refl, ap, ◌∙◌, add-one, arith, length-set, get_or-set_other, get_or-set_same, eq-eqb, ne_eqb, eqb-true}
 use mathlib.Core.Option.{Option, none, some}
 use native.Mathlib.Nat.{sub-zero}
 use lib.ListN.{length-replicate}
@@ -21,19 +21,6 @@ pub record NoneFound (p : Cell → Bool) (ad ts : List ℕ) (i : ℕ) : Type 0 w
   pub within : i ≤ length ad
   pub equal : length ad ≡ length ts
   pub left : first_slot p i (cells (drop i ad) (drop i ts)) ≡ first_slot p 0 (cells ad ts)
-
-module _ {p : Cell → Bool} {ad ts : List ℕ} {i : ℕ} (s : NoneFound p ad ts i) where
-  module _ (l : i < length ad) {c : Cell} (is : c ≡ cell_at ad ts i) where
-    pub found-stop : p c ≡ true → some i ≡ first_slot p 0 (cells ad ts)
-    found-stop e = let e' = rw is at e in rw (cells_at ad ts i s.equal l, e') at s.left
-
-    pub found_turn : p c ≡ false → NoneFound p ad ts (i + 1)
-    found_turn e =
-        let e' = rw is at e in
-        record { within = omega arith; equal = s.equal; left = rw (cells_at ad ts i s.equal l, e') at s.left }
-
-  pub found-end : length ad ≤ i → none ≡ first_slot p 0 (cells ad ts)
-  found-end l = rw (drop_of_length-le ad l) at s.left
 
 pub visited-below : (up : Bool) (M k : ℕ) → k < M → visited up M k < M
 visited-below true M k l = omega arith
@@ -165,11 +152,3 @@ module _ {W : ℕ} {up : Bool} {ad ts row : List ℕ} {k : ℕ} (h : EdgesAmong 
     where
       at-end : (m : ℕ) → m ≤ W + 1 → slot_in row m ≡ latest up (λ c. eqb (group_of W c) m) (cell_at ad ts) (length ad) (length ad)
       at-end m i = let z : k ≡ length ad = omega (arith, h.within) in rw z at (h.of m i)
-
--- a number of the row: 0 for none, or one more than the slot
-pub slot-none : (s : ℕ) → s ≡ 0 → none ≡ as_slot s
-slot-none s e = rw e
-
-pub slot-some : (s : ℕ) → s ≢ 0 → some (s - 1) ≡ as_slot s
-slot-some zero h = absurd (h refl)
-slot-some (suc s) h = let e : suc s - 1 ≡ s = omega arith in ap some e

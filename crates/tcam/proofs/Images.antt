@@ -1,14 +1,13 @@
 -- A pass over the slots that stops at the first one that fails a test: none before slot i fails, an entry or free slots more keep that,
 -- and the filter has their prefixes. Then the count of the used slots.
-use Rattle.std.proofs.Common.{◌≡◌, ℕ, zero, suc, ◌+◌, ◌-◌, ◌<◌, ◌≤◌, min, Bool, true, false, cond, not, eqb, List, [], length, drop, sym, refl, add-one, arith, drop_of_length-le, eqb-true}
-use Rattle.route.specs.Refusals.{fine, fault, image_refusal}
+use Rattle.std.proofs.Common.{◌≡◌, ℕ, zero, suc, ◌+◌, ◌-◌, ◌<◌, ◌≤◌, min, Bool, true, false, not, eqb, List, [], length, drop, sym, refl, add-one, arith, eqb-true}
 use Rattle.route.specs.Loops.{before, places_from}
-use Rattle.tcam.specs.Slots.{Cell, cells, is_free, length_in, same_prefix_in, misplaced, repeats, first_fault, used_in}
+use Rattle.tcam.specs.Slots.{Cell, cells, is_free, length_in, same_prefix_in, misplaced, first_fault, used_in}
 use Rattle.tcam.specs.Runs.{InOrder}
 use Rattle.tcam.specs.Loops.{cell_at, is_used, FreeBetween, FreeEnd}
-use Rattle.route.specs.Filter.{Noting, is_noted}
-use Rattle.route.proofs.Tests.{all_three, not-both, clash}
-use Rattle.route.proofs.Notes.{NotedBefore, noted-none, noted-turn, noted-pass}
+use Rattle.route.specs.Filter.{Noting}
+use Rattle.route.proofs.Tests.{all_three}
+use Rattle.route.proofs.Notes.{NotedBefore, noted-turn, noted-pass}
 use Rattle.route.proofs.Searches.{FoundFrom, from_block}
 use Rattle.tcam.proofs.Rows.{cells_at, cells-in-both, cells-past}
 use Rattle.tcam.proofs.Tested.{free-at, in-order-at}
@@ -19,23 +18,14 @@ pub record FaultBefore (fails : Cell → List Cell → Bool) (ad ts : List ℕ) 
   pub equal : length ad ≡ length ts
   pub left : first_fault fails i (before (cell_at ad ts) i) (cells (drop i ad) (drop i ts)) ≡ first_fault fails 0 [] (cells ad ts)
 
-pub fault-start : {fails : Cell → List Cell → Bool} {ad ts : List ℕ} → length ad ≡ length ts → FaultBefore fails ad ts 0
-fault-start e = record { within = omega arith; equal = e; left = refl }
-
 module _ {fails : Cell → List Cell → Bool} {ad ts : List ℕ} {i : ℕ} (h : FaultBefore fails ad ts i) where
   module _ (l : i < length ad) {b : Bool} (e : b ≡ fails (cell_at ad ts i) (before (cell_at ad ts) i)) where
-    pub fault-stop : b ≡ true → fault image_refusal i ≡ first_fault fails 0 [] (cells ad ts)
-    fault-stop t = rw (cells_at ad ts i h.equal l, ← e, t) at h.left
-
     fault-turn : b ≡ false → FaultBefore fails ad ts (i + 1)
     fault-turn t = record {
       within = omega arith;
       equal = h.equal;
       left = rw add-one (rw (cells_at ad ts i h.equal l, ← e, t, add-one) at h.left);
     }
-
-  pub fault-end : length ad ≤ i → fine ≡ first_fault fails 0 [] (cells ad ts)
-  fault-end l = rw (drop_of_length-le ad l) at h.left
 
 -- slots that do not fail are passed over
 fault-over : {fails : Cell → List Cell → Bool} {ad ts : List ℕ} {i : ℕ} → FaultBefore fails ad ts i → (k : ℕ) → i + k ≤ length ad →
@@ -55,18 +45,8 @@ fault_past {ad = ad} {ts = ts} {i = i} W h l e t f {r} x o =
     rw z at (fault-over (fault-turn h l e t) (r - (i + 1)) (omega (arith, x.behind, x.within))
     (λ j m n. f (cell_at ad ts j) _ (free-at x j m (omega arith)) (in-order-at W (cell_at ad ts) r o j (omega arith))))
 
--- the slots from slot `from` up to slot j are free: they end at slot j where it is used or past the rows, else where those from slot j on
--- end
+-- the slots from slot `from` up to slot j are free: they end where those from slot j on end
 module _ {ad ts : List ℕ} {from j : ℕ} (h : FoundFrom is_used (cell_at ad ts) from (length ad) j false) where
-  free-there : FreeBetween ad ts from j
-  free-there = record { behind = h.behind; within = h.within; free = sym h.is }
-
-  pub free-stop : {c : Cell} → c ≡ cell_at ad ts j → is_free c ≡ false → FreeEnd ad ts from j
-  free-stop is u = record { between = free-there; used = λ l. rw is at u }
-
-  pub free-none : length ad ≤ j → FreeEnd ad ts from j
-  free-none n = record { between = free-there; used = λ l. absurd (omega arith) }
-
   pub free-further : {r : ℕ} → FreeEnd ad ts j r → FreeEnd ad ts from r
   free-further {r} e =
       let b = e.between in
@@ -87,10 +67,6 @@ module _ {ad ts row : List ℕ} {i : ℕ} (h : CellsNoted ad ts row i) where
       Noting row c.address n was row' → length row' ≡ length row → CellsNoted ad ts row' (i + 1)
   cells-noted is e t l = record { each = noted-turn h.each one_cell is (rw e at t) l }
 
-  pub cells-new : {c : Cell} {n : ℕ} → c ≡ cell_at ad ts i → n ≡ length_in c → is_noted row c.address n ≡ false →
-      repeats (cell_at ad ts i) (before (cell_at ad ts) i) ≡ false
-  cells-new {c} is e k = rw is at (not-both (not (is_free c)) _ (λ u j. clash j (noted-none h.each c (rw e at k))))
-
   pub cells-passed : {r : ℕ} → FreeBetween ad ts i r → CellsNoted ad ts row r
   cells-passed {r} e =
       let z : i + (r - i) ≡ r = omega (arith, e.behind) in
@@ -102,25 +78,6 @@ pub record UsedFrom (ad ts : List ℕ) (from to j used : ℕ) : Type 0 where
   pub within : j ≤ to
   pub few : used ≤ j - from
   pub is : used ≡ used_in (places_from (cell_at ad ts) from (j - from))
-
-pub used_start : {ad ts : List ℕ} {from to : ℕ} → from ≤ to → UsedFrom ad ts from to from 0
-used_start {from = from} l = let z : from - from ≡ 0 = omega arith in record { behind = omega arith; within = l; few = omega arith; is = rw z }
-
-module _ {ad ts : List ℕ} {from to j used : ℕ} (h : UsedFrom ad ts from to j used) where
-  pub used_turn : {c : Cell} {n : ℕ} → j < to → c ≡ cell_at ad ts j → n ≡ cond (is_free c) 0 1 → n ≤ 1 → UsedFrom ad ts from to (j + 1) (used + n)
-  used_turn {c} {n} l is e one =
-      let more : j + 1 - from ≡ suc (j - from) = omega (arith, h.behind) in
-      let place : from + (j - from) ≡ j = omega (arith, h.behind) in
-      let here = rw is at e in
-      record {
-        behind = omega (arith, h.behind);
-        within = omega arith;
-        few = omega (arith, h.behind, h.few);
-        is = rw (more, place) (omega (arith, here, h.is));
-      }
-
-  pub used-end : to ≤ j → (used ≡ used_in (places_from (cell_at ad ts) from (to - from))) × (used ≤ to - from)
-  used-end l = let z : to ≡ j = omega (arith, h.within) in rw z (h.is, h.few)
 
 -- the used slots from slot i on are those of k slots and those behind them
 used-parts : (ad ts : List ℕ) (i k : ℕ) → i + k ≤ min (length ad) (length ts) →
@@ -136,9 +93,6 @@ pub record UsedBefore (ad ts : List ℕ) (used i : ℕ) : Type 0 where
   pub within : i ≤ min (length ad) (length ts)
   pub few : used ≤ i
   pub left : used + used_in (cells (drop i ad) (drop i ts)) ≡ used_in (cells ad ts)
-
-pub used-none : {ad ts : List ℕ} → UsedBefore ad ts 0 0
-used-none = record { within = omega arith; few = omega arith; left = omega arith }
 
 module _ {ad ts : List ℕ} {used i : ℕ} (h : UsedBefore ad ts used i) where
   pub used-pass : {n : ℕ} (to : ℕ) → i ≤ to → to ≤ min (length ad) (length ts) →

@@ -6,7 +6,7 @@ pub mod SlotsAgree
 pub mod Sizes
 -- S5 by runs of one length.
 pub mod Runs
--- The loops, by family: the image test, repeats, the lookup, the download, the writes of a plan, lengths in turn and edge slots, chains.
+-- The loops, by family: the image test, repeats, the lookup, the download, the writes of a plan, edge slots, chains.
 pub mod SeenBefore
 pub mod RunLoops
 pub mod Tested
@@ -16,7 +16,6 @@ pub mod Scans
 pub mod Downloads
 pub mod DownloadPass
 pub mod Writes
-pub mod Lengths
 pub mod Edges
 pub mod Chains
 -- The code's answers.

@@ -1,5 +1,5 @@
 -- What a plan answers and leaves in the lent row: refused, the row as it was; else its writes, and the cells past them as found.
-use Rattle.std.proofs.Common.{◌≡◌, ℕ, ◌+◌, ◌-◌, ◌*◌, ◌/◌, ◌<◌, ◌≤◌, Bool, true, false, cond, not, ltb, leb, ◌≢◌, List, [], ◌∷◌, ◌++◌, length, get_or, drop, refl, ap, ◌∙◌, zero-add, arith, le-ltb, lt-ltb, eq-eqb, ne_eqb, leb-false, leb-true}
+use Rattle.std.proofs.Common.{◌≡◌, ℕ, ◌+◌, ◌-◌, ◌*◌, ◌/◌, ◌<◌, ◌≤◌, Bool, true, false, cond, not, ltb, leb, ◌≢◌, List, [], ◌∷◌, ◌++◌, length, get_or, drop, refl, ap, ◌∙◌, zero-add, arith, le-ltb, lt-ltb, ne_eqb, leb-false, leb-true}
 use mathlib.Core.Option.{Option, none, some}
 use lib.Seq.{sets, sets-eq}
 use Rattle.route.proofs.Tests.{by_test}
@@ -37,11 +37,8 @@ module _ (ws : List Write) {row : List ℕ} {w : ℕ} (many : w ≡ length ws) w
       let e : with_room (length row) fine ws ≡ writes ws = rw (le-ltb (length row) (3 * length ws) (omega arith)) in
       record { answers = rw e (ap value many); after = rw e (g ∙ put-row ws row (omega arith)) }
 
--- the gap is at its length's edge, or the edge entry goes there first
+-- where the gap is not at its length's edge, the edge entry goes there first
 module _ (edge : ℕ → Option ℕ) (cs : List Cell) (ls : List ℕ) {s e : ℕ} where
-  pub gap-at-edge : s ≡ e → remove_by edge cs ls s e ≡ chain edge cs ls e free
-  gap-at-edge q = rw (eq-eqb s e q)
-
   pub gap-elsewhere : s ≢ e → remove_by edge cs ls s e ≡ write s (get_or cs e free) ∷ chain edge cs ls e free
   gap-elsewhere q = rw (ne_eqb s e q)
 

@@ -1,7 +1,7 @@
 -- The pass for repeats: what slot i comes to, and that the slots before it repeat a prefix at most once.
 use Rattle.std.proofs.Common.{◌≡◌, ℕ, zero, suc, ◌+◌, ◌-◌, ◌<◌, ◌≤◌, true, false, cond, not, ◌||◌, eqb, List, [], length, drop, sym, refl, ap, ◌∙◌, add-one, arith, drop_of_length-le}
 use mathlib.Core.Bool.{and-false, and-true, or_comm}
-use mathlib.Core.Option.{Option, none, some}
+use mathlib.Core.Option.{Option, some}
 use borrow.Author.Tests.{not-true}
 use Rattle.route.specs.Refusals.{fine, fault, fault_if, image_refusal}
 use Rattle.route.specs.Shown.{number, place}
@@ -9,10 +9,9 @@ use Rattle.route.specs.Lists.{any}
 use Rattle.route.specs.Loops.{before, places_from}
 use Rattle.tcam.specs.Slots.{Cell, cells, is_free, length_in, same_prefix_in, repeats}
 use Rattle.tcam.specs.Plans.{is_some, or_else}
-use Rattle.tcam.specs.Mend.{order_fault, other_tag_in, contradicts, repeat_fault, repeat_slot}
-use Rattle.tcam.specs.Loops.{cell_at, TestedBefore, PlacedAt, repeats_at, FreeBetween, EntryAt, repeat_of, since_at, fails_at, RepeatWith, MendFound, TableRows}
+use Rattle.tcam.specs.Mend.{other_tag_in, contradicts, repeat_fault, repeat_slot}
+use Rattle.tcam.specs.Loops.{cell_at, TestedBefore, PlacedAt, repeats_at, FreeBetween, EntryAt, repeat_of, since_at, fails_at, RepeatWith, TableRows}
 use Rattle.tcam.specs.Shown.{place_of}
-use Rattle.route.specs.declared.Refusal.{Refusal}
 use Rattle.tcam.specs.declared.image.Seen.{Seen}
 use Rattle.tcam.specs.declared.mend.Repeat.{Repeat}
 use Rattle.tcam.specs.declared.mend.Repeat.TheVariants.{Found, Refused}
@@ -49,10 +48,6 @@ module _ (at : ℕ → Cell) (i : ℕ) where
   pub with-not : (r : Repeat) → repeats_at at i ≡ false → RepeatWith at r i r
   with-not (Found p) e = repeats-not (place_of p) e
   with-not (Refused f) e = refl
-
-  -- a slot before is refused
-  pub with-refused : (r : Repeats) → r.refused ≡ true → RepeatWith at (repeat_of r) i (repeat_of r)
-  with-refused r e = rw e refl
 
   module _ (r : Repeats) (n : r.refused ≡ false) (e : repeats_at at i ≡ true) where
     -- the second slot to repeat a prefix, or another tag
@@ -128,24 +123,12 @@ RepeatKept ad ts (Found p) i = RepeatBefore ad ts (place_of p) i
 RepeatKept ad ts (Refused f) i = fault (number f) (place f) ≡ repeat_fault 0 false [] (cells ad ts)
 
 module _ (ad ts : List ℕ) where
-  pub kept-none : length ad ≡ length ts → RepeatBefore ad ts none 0
-  kept-none e = record { within = omega arith; equal = e; verdict = refl; slot = refl }
-
   -- with slot i more, and the free slots behind it
   pub kept-past : (i n : ℕ) → i < length ad → FreeBetween ad ts (i + 1) n → (r s : Repeat) → RepeatKept ad ts r i →
       RepeatWith (cell_at ad ts) r i s → RepeatKept ad ts s n
   kept-past i n l x (Refused f) s h e = rw e h
   kept-past i n l x (Found p) (Refused f) h e = stop h l e
   kept-past i n l x (Found p) (Found q) h e = past (turn h l e) x
-
-  pub kept-end : (W i : ℕ) → length ad ≤ i → fine ≡ order_fault W 0 [] (cells ad ts) → (r : Repeat) → RepeatKept ad ts r i →
-      MendFound W (cells ad ts) r
-  kept-end W i l o (Refused f) h = rw (← o) h
-  kept-end W i l o (Found p) h = rw (← o) (end h l)
-
--- S1 to S4 come first
-pub order-first : (W : ℕ) (cs : List Cell) (f : Refusal) → fault (number f) (place f) ≡ order_fault W 0 [] cs → MendFound W cs (Refused f)
-order-first W cs f e = rw (← e)
 
 -- the later copy is in the table
 pub repeat-entry : (ad ts : List ℕ) → length ad ≡ length ts → EntryAt ad ts (repeat_slot 0 [] (cells ad ts))

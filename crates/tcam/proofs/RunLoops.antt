@@ -17,9 +17,6 @@ at-start {at} {n} {i} h = record {
   is = λ m. h m ∙ sym (either (λ l. l ≡ []) (eqb m n) (λ e. let z : i - i ≡ 0 = omega arith in rw z) (λ e. refl));
 }
 
-pub run_none : {at : ℕ → Cell} {n : ℕ} → RunBefore at 0 n 0
-run_none = at-start (λ m. refl)
-
 -- behind a free slot, and behind more of them
 behind-free : {at : ℕ → Cell} {n i : ℕ} → is_free (at i) ≡ true → RunBefore at (suc i) n (suc i)
 behind-free {at} {n} {i} e = at-start (λ m. rw e)

@@ -1,18 +1,15 @@
--- What a pass keeps of the slots before slot i, where they keep S1 to S4: before the first, with an entry more, and with free slots more.
+-- What a pass keeps of the slots before slot i, where they keep S1 to S4: with an entry more, and with free slots more.
 use Rattle.std.proofs.Common.{◌≡◌, ℕ, zero, suc, ◌+◌, ◌-◌, ◌<◌, ◌≤◌, true, false, ltb, List, length, sym, ◌∙◌, add-one, arith, ltb-false, ltb-true}
 use borrow.Author.Tests.{not-false}
 use Rattle.route.specs.Lists.{any}
 use Rattle.route.specs.Loops.{before, places_from}
 use Rattle.tcam.specs.Slots.{Cell, is_free}
 use Rattle.tcam.specs.Runs.{InOrder}
-use Rattle.tcam.specs.Loops.{cell_at, is_used, SeenBefore, SeenNone, SeenWith, SeenPast, TestedBefore, PlacedAt, FreeBetween}
+use Rattle.tcam.specs.Loops.{cell_at, is_used, SeenBefore, SeenWith, SeenPast, TestedBefore, PlacedAt, FreeBetween}
 use Rattle.tcam.specs.declared.image.Seen.{Seen}
 use Rattle.route.proofs.Tests.{by_test, or_parts}
-use Rattle.tcam.proofs.SeenBefore.{misplaced-free, misplaced-is, seen_start, seen-with, seen-past, past-again}
-use Rattle.tcam.proofs.RunLoops.{run_none, run-with, run_past}
-
-pub tested-none : {W : ℕ} {at : ℕ → Cell} {s : Seen} → SeenNone W s → TestedBefore W at s 0
-tested-none n = record { in_order = tt; seen = seen_start n.nearest n.free n.lower; run = rw n.run run_none }
+use Rattle.tcam.proofs.SeenBefore.{misplaced-free, misplaced-is, seen-with, seen-past, past-again}
+use Rattle.tcam.proofs.RunLoops.{run-with, run_past}
 
 -- slots in order are in order up to each of them
 pub in-order-at : (W : ℕ) (at : ℕ → Cell) (i : ℕ) → InOrder W (before at i) → (j : ℕ) → j < i → PlacedAt W at j

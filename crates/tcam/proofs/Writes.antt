@@ -1,11 +1,10 @@
 -- The loops over the first k writes of a plan: what each has done at write i, and that a turn keeps it.
 use Rattle.std.proofs.Common.{◌≡◌, ℕ, suc, ◌+◌, ◌-◌, ◌*◌, ◌/◌, ◌<◌, ◌≤◌, true, false, leb, List, [], ◌∷◌, ◌++◌, length, take, drop, set, refl, ap, add-one, arith, length-set, drop-cons, leb-false}
-use native.Mathlib.Nat.{sub-zero}
 use native.Mathlib.Numerals.{add-two}
-use Rattle.route.specs.Refusals.{value, refused, fine, fault, fault_if, plan_refusal}
+use Rattle.route.specs.Refusals.{fine, fault, fault_if, plan_refusal}
 use Rattle.tcam.specs.Slots.{Cell}
 use Rattle.tcam.specs.Plans.{Write, numbers}
-use Rattle.tcam.specs.Applies.{writes_in, is_wrong, write_fault, stored, apply_fault, IsApplied}
+use Rattle.tcam.specs.Applies.{writes_in, is_wrong, write_fault, stored}
 use Rattle.tcam.specs.Loops.{write_at}
 use Rattle.route.proofs.Tests.{in_turn, passed, or_parts}
 
@@ -27,17 +26,11 @@ rest_at k plan i l r =
     let s : suc (suc (3 * i)) < length plan = omega arith in
     rw (n, f, add-one (3 * i), add-two (3 * i), drop-cons plan (3 * i) 0 p, drop-cons plan (suc (3 * i)) 0 q, drop-cons plan (suc (suc (3 * i))) 0 s)
 
-rest_end : (k : ℕ) (plan : List ℕ) (i : ℕ) → k ≤ i → rest k plan i ≡ []
-rest_end k plan i l = let n : k - i ≡ 0 = omega arith in rw n
-
 -- the writes before write i can be made: what is left gives the whole verdict
 pub record CheckedWrites (W M : ℕ) (plan : List ℕ) (k i : ℕ) : Type 0 where
   pub within : i ≤ k
   pub room : k ≤ length plan / 3
   pub left : write_fault W M i (rest k plan i) ≡ write_fault W M 0 (take k (writes_in plan))
-
-pub checked-start : {W M : ℕ} {plan : List ℕ} {k : ℕ} → k ≤ length plan / 3 → CheckedWrites W M plan k 0
-checked-start r = record { within = omega arith; room = r; left = rw sub-zero }
 
 module _ {W M : ℕ} {plan : List ℕ} {k i : ℕ} (v : CheckedWrites W M plan k i) where
   module _ (l : i < k) {w : Write} (is : w ≡ write_at plan i) where
@@ -48,9 +41,6 @@ module _ {W M : ℕ} {plan : List ℕ} {k i : ℕ} (v : CheckedWrites W M plan k
     checked-turn e =
         let e' = rw is at e in
         record { within = omega arith; room = v.room; left = rw (rest_at k plan i l v.room, e') at v.left }
-
-  pub checked-end : k ≤ i → fine ≡ write_fault W M 0 (take k (writes_in plan))
-  checked-end l = rw (rest_end k plan i l) at v.left
 
 -- one row, of whose cells it takes a part, after the writes before write i: what is left of them gives the row that is wanted
 pub record RowAt (part : Cell → ℕ) (plan : List ℕ) (k : ℕ) (row₀ row : List ℕ) (i : ℕ) : Type 0 where
@@ -65,13 +55,6 @@ pub record MadeWrites (W : ℕ) (plan : List ℕ) (k : ℕ) (ad₀ ts₀ ad ts :
   pub sound : write_fault W (length ad₀) i (rest k plan i) ≡ fine
   pub addresses : RowAt (λ c. c.address) plan k ad₀ ad i
   pub tags : RowAt (λ c. c.tag) plan k ts₀ ts i
-
-row-start : {part : Cell → ℕ} {plan : List ℕ} {k : ℕ} {row : List ℕ} → RowAt part plan k row row 0
-row-start = record { size = refl; left = rw sub-zero }
-
-pub made-start : {W : ℕ} {plan : List ℕ} {k : ℕ} {ad ts : List ℕ} → k ≤ length plan / 3 → length ad ≡ length ts →
-    write_fault W (length ad) 0 (take k (writes_in plan)) ≡ fine → MadeWrites W plan k ad ts ad ts 0
-made-start r e f = record { within = omega arith; room = r; equal = e; sound = rw sub-zero f; addresses = row-start; tags = row-start }
 
 module _ {W : ℕ} {plan : List ℕ} {k : ℕ} {ad₀ ts₀ ad ts : List ℕ} {i : ℕ} (s : MadeWrites W plan k ad₀ ts₀ ad ts i) where
   module _ (l : i < k) {w : Write} (is : w ≡ write_at plan i) where
@@ -100,20 +83,3 @@ module _ {W : ℕ} {plan : List ℕ} {k : ℕ} {ad₀ ts₀ ad ts : List ℕ} {i
       addresses = row-turn s.addresses;
       tags = row-turn s.tags;
     }
-
-  row-end : {part : Cell → ℕ} {row₀ row : List ℕ} → k ≤ i → RowAt part plan k row₀ row i → row ≡ stored part row₀ (take k (writes_in plan))
-  row-end l r = rw (rest_end k plan i l) at r.left
-
-  pub made-end : k ≤ i →
-      (ad ≡ stored (λ c. c.address) ad₀ (take k (writes_in plan))) × (ts ≡ stored (λ c. c.tag) ts₀ (take k (writes_in plan)))
-  made-end l = (row-end l s.addresses, row-end l s.tags)
-
--- an apply that found a fault, and one that found none
-module _ {W : ℕ} {ad ts plan : List ℕ} {k : ℕ} where
-  pub apply-refused : {n p : ℕ} → apply_fault W ad ts plan k ≡ fault n p → IsApplied W ad ts plan k (refused n p) ad ts
-  apply-refused e = record { answers = rw e; addresses = rw e; tags = rw e }
-
-  pub apply-done : {ad' ts' : List ℕ} → apply_fault W ad ts plan k ≡ fine →
-      (ad' ≡ stored (λ c. c.address) ad (take k (writes_in plan))) × (ts' ≡ stored (λ c. c.tag) ts (take k (writes_in plan))) →
-      IsApplied W ad ts plan k (value k) ad' ts'
-  apply-done e f = record { answers = rw e; addresses = rw e f.0; tags = rw e f.1 }
