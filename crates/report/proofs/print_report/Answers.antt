@@ -2,8 +2,7 @@
 use borrow.Author.Rules.{rules}
 use mathlib.Core.Path.{sym, ◌∙◌}
 use native.Mathlib.Omega.{arith}
-use Rattle.history.specs.Reports.{rows}
-use Rattle.history.proofs.Whole.{NextPart, next-part}
+use Rattle.history.proofs.Whole.{next-part}
 use Rattle.report.proofs.print_report.Goals as goal
 
 pub loop-stage-smaller : goal.loop-stage-smaller

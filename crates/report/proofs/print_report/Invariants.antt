@@ -1,14 +1,9 @@
 -- Part by part: the stage is one of the bytes. The measure is how many steps are left, since a part has room for a line.
-use borrow.Author.Rules.{rules}
-use borrow.Author.Tests.{not-true}
-use mathlib.Core.Path.{◌≡◌, refl, sym, ◌∙◌}
-use native.Mathlib.Omega.{arith}
+use mathlib.Core.Path.{◌≡◌}
 use lib.ListN.{length}
-use lib.Seq.{length-take-le}
 use Rattle.history.specs.Reports.{rows}
 use Rattle.history.specs.Stages.{steps_left}
 use Rattle.history.specs.Steps.{Ready}
-use Rattle.history.proofs.Whole.{start-ready, NextPart, next-part}
 use Rattle.report.proofs.print_report.Given as goal
 
 abbrev pub invariant-loop-stage : goal.invariant-loop-stage

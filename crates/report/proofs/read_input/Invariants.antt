@@ -1,9 +1,7 @@
 -- Read by read: the first `size` bytes of the buffer are read. The measure is the room behind them, since each turn that goes on read a byte.
-use borrow.Author.Rules.{rules}
 use Prim.Native.Nat.{◌-◌, ◌≤◌}
-use mathlib.Core.Path.{◌≡◌, sym}
+use mathlib.Core.Path.{◌≡◌}
 use lib.ListN.{length}
-use lib.Seq.{length-take-le}
 use Rattle.report.proofs.read_input.Given as goal
 
 abbrev pub invariant-loop-size : goal.invariant-loop-size
