@@ -1,6 +1,6 @@
--- Keys say the routes that they were made from, and rise as their routes are in order. So the sweep over a list's sorted keys makes its
+-- Words say what they were made from, and keys rise as their routes are in order. So the sweep over a list's sorted keys makes its
 -- merged ranges.
-use Rattle.std.proofs.Common.{◌≡◌, ℕ, ◌+◌, ◌*◌, ◌/◌, ◌%◌, ◌<◌, ◌≤◌, List, [], ◌∷◌, get_or, sym, ap, ◌∙◌, subst, arith, le-ltb}
+use Rattle.std.proofs.Common.{◌≡◌, ℕ, ◌+◌, ◌*◌, ◌/◌, ◌%◌, ◌<◌, ◌≤◌, List, [], ◌∷◌, length, get_or, sym, ap, ◌∙◌, subst, ap₂, arith, le-ltb}
 use mathlib.Core.List.Memᴰ
 use Rattle.route.specs.Rule.{Route}
 use Rattle.route.specs.PrefixOrder
@@ -10,11 +10,11 @@ use Rattle.route.specs.RightHop.{◌∈◌}
 use Rattle.route.proofs.PrefixOrder.{by_key}
 use Rattle.route.proofs.LongestMatch.{SameSet}
 use Rattle.route.proofs.RouteSet.{RouteSet}
-use Rattle.route.proofs.Accepted.{accepted_set}
+use Rattle.route.proofs.Accepted.{rows_of_set, accepted_set}
 use Rattle.route.proofs.Entries.{routes-addresses}
 use Rattle.route.proofs.Members.{each_at}
-use Rattle.ranges.specs.Ranges.{Range, ranges_of}
-use Rattle.ranges.specs.Words.{key_of, route_in, routes_in}
+use Rattle.ranges.specs.Ranges.{Range, range, ranges_of}
+use Rattle.ranges.specs.Words.{key_of, route_in, routes_in, word_of, range_in}
 use Rattle.ranges.specs.Sweeps.{swept_ranges}
 use Rattle.ranges.specs.Sorting.{sorted, Ordered}
 use Rattle.ranges.specs.Builds.{table_of}
@@ -22,8 +22,19 @@ use Rattle.ranges.specs.Loops.{keys_of}
 use Rattle.ranges.proofs.LastMatch.{InOrder, AllInOrder}
 use Rattle.ranges.proofs.Boundaries.{Placed}
 use Rattle.ranges.proofs.RangesAgree.{ranges_same}
-use Rattle.ranges.proofs.Sorting.{sorted-members, sorted-ordered}
+use Rattle.ranges.proofs.Sorting.{sorted-length, sorted-members, sorted-ordered}
 use Rattle.ranges.proofs.Sweeps.{sweep_makes}
+use Rattle.ranges.proofs.Fills.{keys_length}
+
+-- a start and a hop from their word
+word_start : (s h : ℕ) → s < 4294967296 → h < 65536 → (s * 65536 + h) / 65536 % 4294967296 ≡ s
+word_start s h l m = omega arith
+
+word_hop : (s h : ℕ) → h < 65536 → (s * 65536 + h) % 65536 ≡ h
+word_hop s h m = omega arith
+
+pub word_says : (r : Range) → r.start < 4294967296 → r.hop < 65536 → range_in (word_of r) ≡ r
+word_says r l m = ap₂ range (word_start r.start r.hop l m) (word_hop r.start r.hop m)
 
 -- the parts of a key
 key_address : (a n h : ℕ) → a < 4294967296 → n < 64 → h < 65536 → ((a * 64 + n) * 65536 + h) / 4194304 % 4294967296 ≡ a
@@ -97,9 +108,15 @@ keys_make rs ok placed =
         let v = ok.valid r m in
         record { address = placed r m; length = omega (arith, v.short); hop = omega (arith, v.small) }
 
--- the keys of a list that has been tested, packed and sorted: what the sweep makes of them
+-- the keys of a list that has been tested, packed and sorted: as many as its entries, and what the sweep makes of them
 module _ (ad ns hs : List ℕ) (ok : rows_fault 32 ad ns hs ≡ fine) {packed : List ℕ} (is : packed ≡ keys_of (routes ad ns hs)) where
+  pub packed-length : length packed ≡ length ad
+  packed-length = rw is (keys_length ad ns hs ((rows_of_set 32 ad ns hs).0 ok).equal)
+
   module _ {keys : List ℕ} (rises : keys ≡ sorted packed) where
+    pub keys-many : length keys ≡ length ad
+    keys-many = rw rises (sorted-length packed ∙ packed-length)
+
     pub list-made : ((i : ℕ) → get_or ad i 0 < 4294967296) → {t : List Range} → t ≡ swept_ranges 32 (routes_in keys) → t ≡ table_of 32 ad ns hs
     list-made small e =
         let placed = routes-addresses (λ a. a < 4294967296) ad ns hs (each_at (λ a. a < 4294967296) ad small) in

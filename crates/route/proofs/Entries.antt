@@ -6,14 +6,17 @@ use mathlib.Core.List.Memᴰ
 use mathlib.Core.List.{List, [], ◌∷◌}
 use native.Mathlib.Omega.{arith}
 use native.Mathlib.Numerals.{add-one}
+use borrow.Author.Tests.{eqb-true}
+use lib.Dec.{eqb}
 use lib.ListN.{length, drop, get_or, drop_of_length-le}
 use lib.Seq.{drop-cons}
 use Rattle.route.specs.Rule.{Route, route, Match, longest}
 use Rattle.route.specs.Refusals.{fine, fault, fault_if, ◌then◌, entry_fault, twice_refusal}
-use Rattle.route.specs.Lists.{EqualRows, routes, has_prefix, list_fault}
+use Rattle.route.specs.Lists.{EqualRows, routes, same_prefix, has_prefix, list_fault}
 use Rattle.route.specs.RightHop.{◌∈◌}
 use Rattle.route.specs.Loops.{before, route_at}
 use Rattle.route.proofs.Members.{each_of}
+use Rattle.route.proofs.Tests.{and_parts}
 
 -- the entries from entry i on begin with entry i
 pub routes-at : (ad ns hs : List ℕ) (i : ℕ) → EqualRows ad ns hs → i < length ad →
@@ -50,6 +53,12 @@ routes-addresses P (a ∷ ad) (n ∷ ns) [] k = λ r m. absurd (Memᴰ.not-nil m
 routes-addresses P (a ∷ ad) (n ∷ ns) (h ∷ hs) k =
     each_of {P = λ (r : Route). P r.address} (route a n h) (routes ad ns hs) (k a (Memᴰ.head refl))
     (routes-addresses P ad ns hs (λ x m. k x (Memᴰ.tail m)))
+
+-- two entries of one prefix
+pub one-prefix : (r s : Route) → same_prefix r s ≡ true → (r.address ≡ s.address) × (r.length ≡ s.length)
+one-prefix r s e =
+    let p = and_parts (eqb r.address s.address) (eqb r.length s.length) e in
+    (eqb-true _ _ p.0, eqb-true _ _ p.1)
 
 -- the search from the end: m is the longest match of the entries from entry i on
 pub record LongestFrom (W : ℕ) (ad ns hs : List ℕ) (q : ℕ) (m : Match) (i : ℕ) : Type 0 where

@@ -1,7 +1,7 @@
--- S1 of one slot: what it says of a used one, and which slots keep it: those of an image without a fault, and an entry whose prefix and
--- hop are not refused. Then S1 to S4 of a slot, by rules.
-use Rattle.std.proofs.Common.{◌≡◌, ℕ, zero, suc, ◌+◌, ◌%◌, ◌<◌, ◌≤◌, true, false, not, ◌&&◌, eqb, leb, List, [], ◌∷◌, get_or, refl, arith, le-ltb, eq-eqb, ne_eqb, eqb-true, le-leb, leb-true}
-use borrow.Author.Tests.{not-false}
+-- S1 of one slot: what it says of a used one, the ways in which it is tested, and which slots keep it: those of an image without a
+-- fault, and an entry whose prefix and hop are not refused. Then S1 to S4 of a slot, by rules.
+use Rattle.std.proofs.Common.{◌≡◌, ℕ, zero, suc, ◌+◌, ◌%◌, ◌<◌, ◌≤◌, Bool, true, false, not, ◌&&◌, ◌||◌, eqb, leb, ◌≢◌, List, [], ◌∷◌, get_or, sym, refl, ap, ◌∙◌, arith, le-ltb, eq-eqb, ne_eqb, eqb-true, le-leb, leb-true}
+use borrow.Author.Tests.{eqb-false, lt-leb, not-true, not-false}
 use Rattle.route.specs.Rule.{span}
 use Rattle.route.specs.Limits.{max_hop}
 use Rattle.route.specs.Refusals.{fine, fault_if, prefix_fault, hop_fault, image_refusal}
@@ -11,7 +11,7 @@ use Rattle.route.proofs.Tests.{and_parts, all_three, or_parts, or_right, is_fals
 use Rattle.route.proofs.Accepted.{prefix-good, hop-good}
 
 module _ (W : ℕ) (c : Cell) where
-  -- a used slot that keeps S1 has a length of at most W
+  -- a used slot that keeps S1 has a length of at most W and a hop
   module _ (k : keeps_s1 W c ≡ true) (u : is_free c ≡ false) where
     parts : (leb (length_in c) W ≡ true) × (eqb (c.address % span W (length_in c)) 0 ≡ true) × (not (eqb (hop_in c) 0) ≡ true)
     parts = all_three (leb (length_in c) W) (eqb (c.address % span W (length_in c)) 0) (not (eqb (hop_in c) 0)) (or_right (is_free c) _ k u)
@@ -19,9 +19,43 @@ module _ (W : ℕ) (c : Cell) where
     pub used-short : length_in c ≤ W
     used-short = leb-true (length_in c) W parts.0
 
+    pub used-hop : 0 < hop_in c
+    used-hop = let h = eqb-false (hop_in c) 0 (not-true _ parts.2) in omega arith
+
     -- its prefix can be asked from
     pub used-prefix : prefix_fault W 0 c.address (length_in c) ≡ fine
     used-prefix = rw (le-ltb W (length_in c) used-short, parts.1)
+
+  -- without a hop only a free slot keeps S1; with one, a short enough length and a multiple of its span
+  pub valid-hopless : hop_in c ≡ 0 → is_free c ≡ keeps_s1 W c
+  valid-hopless h = go (is_free c) (leb (length_in c) W) _ _ (eq-eqb (hop_in c) 0 h)
+    where
+      go : (free short whole none : Bool) → none ≡ true → free ≡ (free || (short && whole && not none))
+      go true s w z e = refl
+      go false false w z e = refl
+      go false true false z e = refl
+      go false true true z e = rw e
+
+  module _ (h : hop_in c ≢ 0) where
+    used : is_free c ≡ false
+    used = is_false (is_free c) (λ f. h (ap (λ (t : ℕ). t % 65536) (eqb-true c.tag 0 (and_parts (eqb c.address 0) (eqb c.tag 0) f).1)))
+
+    by-hop : (leb (length_in c) W && eqb (c.address % span W (length_in c)) 0) ≡ keeps_s1 W c
+    by-hop = go (is_free c) (leb (length_in c) W) (eqb (c.address % span W (length_in c)) 0) (eqb (hop_in c) 0) used (ne_eqb (hop_in c) 0 h)
+      where
+        go : (free short whole none : Bool) → free ≡ false → none ≡ false → (short && whole) ≡ (free || (short && whole && not none))
+        go free true true none e f = rw (e, f)
+        go free true false none e f = rw e
+        go free false whole none e f = rw e
+
+    by_length : {b : Bool} → leb (length_in c) W ≡ b → (b && eqb (c.address % span W (length_in c)) 0) ≡ keeps_s1 W c
+    by_length e = ap (λ (b : Bool). b && eqb (c.address % span W (length_in c)) 0) (sym e) ∙ by-hop
+
+    pub valid-long : W < length_in c → false ≡ keeps_s1 W c
+    valid-long l = by_length (lt-leb (length_in c) W l)
+
+    pub valid-short : length_in c ≤ W → eqb (c.address % span W (length_in c)) 0 ≡ keeps_s1 W c
+    valid-short l = by_length (le-leb (length_in c) W l)
 
 -- each slot of an image without a fault keeps S1; past its end a slot is read as free
 pub slot-keeps : (W i : ℕ) (cs : List Cell) (s : ℕ) → slot_fault W i cs ≡ fine → keeps_s1 W (get_or cs s free) ≡ true
