@@ -6,8 +6,8 @@ use Rattle.history.proofs.step.slot_step.Goals as goal
 
 pub slot_line-requires : goal.slot_line-requires
 slot_line-requires c =
-    let s = c in
-    slot-fits s.args.slot.0 (rows s.args.addresses.now s.args.tags.now) (search rules) s.requires.addresses_len s.requires.tags_in_bounds
+    let a = c.args in
+    slot-fits a.slot.0 (rows a.addresses.now a.tags.now) (search rules) c.requires.addresses_len c.requires.tags_in_bounds
 
 pub returns : goal.returns
 returns c = step-slot _ _ (search rules) (search rules) c.slot_line.ensures

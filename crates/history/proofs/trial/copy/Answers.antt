@@ -1,4 +1,4 @@
--- Number by number. The measure is what is left of the row.
+-- Every number has been copied, so the row is the other.
 use borrow.Author.Rules.{rules}
 use Rattle.route.proofs.Fills.{fill-whole}
 use Rattle.history.proofs.trial.copy.Goals as goal

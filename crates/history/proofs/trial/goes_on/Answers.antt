@@ -7,12 +7,8 @@ use Rattle.history.proofs.trial.goes_on.Goals as goal
 
 pub returns-then-room-ge-MAX_LINE : goal.returns-then-room-ge-MAX_LINE
 returns-then-room-ge-MAX_LINE c =
-    let d = c in
-    let a = d.args in
-    roomy (sym d.is_done.ensures ∙ d.if-is_done.false) c.if-room-ge-MAX_LINE.true (step_fits a.bytes.now a.stage (rows a.addresses.now a.tags.now))
+    let a = c.args in
+    roomy (sym c.is_done.ensures ∙ c.if-is_done.false) c.if-room-ge-MAX_LINE.true (step_fits a.bytes.now a.stage (rows a.addresses.now a.tags.now))
 
 pub returns : goal.returns
-returns c =
-    let d = c in
-    let a = d.args in
-    by_size (sym d.is_done.ensures ∙ d.if-is_done.false) a.room _ c.line_size.ensures
+returns c = by_size (sym c.is_done.ensures ∙ c.if-is_done.false) c.args.room _ c.line_size.ensures
