@@ -5,16 +5,12 @@ use Prim.Native.Nat.{ℕ, zero, suc}
 use mathlib.Core.Path.{◌≡◌, refl, sym, ap, ◌∙◌}
 use mathlib.Core.Bool.{false, cond}
 use lib.Dec.{eqb, eqb-suc-zero}
+use Rattle.std.specs.Prelude.{Option, None, Some, Result, Ok, Err}
 use Rattle.route.specs.Refusals.{Answer, value, refused, Verdict, fine, fault}
 use Rattle.route.specs.Shown.{number, place, verdict_of, counted, shown}
 use Rattle.route.specs.declared.Refusal.{Refusal}
 use Rattle.route.specs.declared.Refusal.TheVariants.{Length, Address, Hop, Twice, Full, Absent, Image, Size, Room, Plan, Number, Cut, Kind}
-use Rattle.route.specs.declared.Check.{Check}
-use Rattle.route.specs.declared.Check.TheVariants.{Fine, Fault}
-use Rattle.route.specs.declared.Counted.{Counted}
-use Rattle.route.specs.declared.Counted.TheVariants.{Count, Refused as NotCounted}
-use Rattle.route.specs.declared.Found.{Found}
-use Rattle.route.specs.declared.Found.TheVariants.{Nothing, Via, Refused}
+use Rattle.route.specs.declared.Hop.{Hop as NextHop}
 
 -- the refusal of a number and a place; any other number goes to the last
 abbrev pub refusal_of : ℕ → ℕ → Refusal
@@ -53,41 +49,41 @@ refusal-back (Kind p) = (refl, refl)
 pub apart : {A B : Type 0} (show : A → B) (back : B → A) → ((a : A) → back (show a) ≡ a) → (a b : A) → show a ≡ show b → a ≡ b
 apart show back e a b s = sym (e a) ∙ ap back s ∙ e b
 
-abbrev check_of : Verdict → Check
-check_of fine = Fine
-check_of (fault n p) = Fault (refusal_of n p)
+abbrev check_of : Verdict → Result (Unit {0}) Refusal
+check_of fine = Ok tt
+check_of (fault n p) = Err (refusal_of n p)
 
-check-back : (c : Check) → check_of (verdict_of c) ≡ c
-check-back Fine = refl
-check-back (Fault r) = ap Fault (refusal-back r).0
+check-back : (c : Result (Unit {0}) Refusal) → check_of (verdict_of c) ≡ c
+check-back (Ok u) = refl
+check-back (Err r) = ap Err (refusal-back r).0
 
-abbrev counted_of : Answer → Counted
-counted_of (value n) = Count n
-counted_of (refused n p) = NotCounted (refusal_of n p)
+abbrev counted_of : Answer → Result ℕ Refusal
+counted_of (value n) = Ok n
+counted_of (refused n p) = Err (refusal_of n p)
 
-counted_back : (c : Counted) → counted_of (counted c) ≡ c
-counted_back (Count n) = refl
-counted_back (NotCounted r) = ap NotCounted (refusal-back r).0
+counted_back : (c : Result ℕ Refusal) → counted_of (counted c) ≡ c
+counted_back (Ok n) = refl
+counted_back (Err r) = ap Err (refusal-back r).0
 
 -- `shown` gives a hop 0 the number 0
-abbrev found_of : Answer → Found
-found_of (value h) = cond (eqb h 0) Nothing (Via (record { 0 = h }))
-found_of (refused n p) = cond (eqb n 0) (Via (record { 0 = 0 })) (Refused (refusal_of n p))
+abbrev found_of : Answer → Result (Option NextHop) Refusal
+found_of (value h) = cond (eqb h 0) (Ok None) (Ok (Some (record { 0 = h })))
+found_of (refused n p) = cond (eqb n 0) (Ok (Some (record { 0 = 0 }))) (Err (refusal_of n p))
 
-via-back : (h : ℕ) → found_of (cond (eqb h 0) (refused 0 0) (value h)) ≡ Via (record { 0 = h })
+via-back : (h : ℕ) → found_of (cond (eqb h 0) (refused 0 0) (value h)) ≡ Ok (Some (record { 0 = h }))
 via-back zero = refl
 via-back (suc h) = simp eqb-suc-zero
 
-found_back : (f : Found) → found_of (shown f) ≡ f
-found_back Nothing = refl
-found_back (Via h) = via-back h.0
-found_back (Refused r) = rw ((refusal-back r).1, (refusal-back r).0)
+found_back : (f : Result (Option NextHop) Refusal) → found_of (shown f) ≡ f
+found_back (Ok None) = refl
+found_back (Ok (Some h)) = via-back h.0
+found_back (Err r) = rw ((refusal-back r).1, (refusal-back r).0)
 
-pub check-determined : (c d : Check) → verdict_of c ≡ verdict_of d → c ≡ d
+pub check-determined : (c d : Result (Unit {0}) Refusal) → verdict_of c ≡ verdict_of d → c ≡ d
 check-determined = apart verdict_of check_of check-back
 
-pub counted-determined : (c d : Counted) → counted c ≡ counted d → c ≡ d
+pub counted-determined : (c d : Result ℕ Refusal) → counted c ≡ counted d → c ≡ d
 counted-determined = apart counted counted_of counted_back
 
-pub found-determined : (f g : Found) → shown f ≡ shown g → f ≡ g
+pub found-determined : (f g : Result (Option NextHop) Refusal) → shown f ≡ shown g → f ≡ g
 found-determined = apart shown found_of found_back

@@ -1,9 +1,8 @@
 -- What the contracts of leaves and of loops speak of. The contracts of the list's test and lookup cite none of it.
-use Rattle.std.specs.Prelude.{ℕ, zero, suc, ◌+◌, ◌<◌, ◌≡◌, List, [], ◌∷◌, get_or}
+use Rattle.std.specs.Prelude.{ℕ, zero, suc, ◌+◌, ◌<◌, ◌≡◌, List, [], ◌∷◌, get_or, Option, None, Some}
 use Rattle.route.specs.Rule.{Route, route, span, Match, nothing, best}
 use Rattle.route.specs.Shown.{route_of}
-use Rattle.route.specs.declared.list.Best.{Best}
-use Rattle.route.specs.declared.list.Best.TheVariants.{Nowhere, At}
+use Rattle.route.specs.declared.Prefix.{Prefix}
 
 -- s is the span of length n, and can be divided by
 pub record IsSpan (W n s : ℕ) : Type 0 where
@@ -25,6 +24,6 @@ abbrev pub route_at : List ℕ → List ℕ → List ℕ → ℕ → Route
 route_at ad ns hs i = route (get_or ad i 0) (get_or ns i 0) (get_or hs i 0)
 
 -- the longest match so far
-abbrev pub match_of : Best → Match
-match_of Nowhere = nothing
-match_of (At p) = best (route_of p)
+abbrev pub match_of : Option Prefix → Match
+match_of None = nothing
+match_of (Some p) = best (route_of p)

@@ -1,7 +1,7 @@
 -- The specification's numbers for the code's types: a refusal's number and place, what an answer shows, the route of a prefix.
 --
 -- What is shown tells any two answers apart (proofs/Determined), so that a contract which fixes what is shown fixes the value.
-use Rattle.std.specs.Prelude.{ℕ, cond, eqb}
+use Rattle.std.specs.Prelude.{ℕ, cond, eqb, Option, None, Some, Result, Ok, Err}
 use Rattle.route.specs.Rule.{Route, route}
 use Rattle.route.specs.Refusals.{Answer, value, refused, Verdict, fine, fault}
 use Rattle.route.specs.Refusals.{length_refusal, address_refusal, hop_refusal, twice_refusal, full_refusal, absent_refusal, image_refusal}
@@ -9,12 +9,7 @@ use Rattle.route.specs.Refusals.{size_refusal, room_refusal, plan_refusal, numbe
 use Rattle.route.specs.declared.Prefix.{Prefix}
 use Rattle.route.specs.declared.Refusal.{Refusal}
 use Rattle.route.specs.declared.Refusal.TheVariants.{Length, Address, Hop, Twice, Full, Absent, Image, Size, Room, Plan, Number, Cut, Kind}
-use Rattle.route.specs.declared.Check.{Check}
-use Rattle.route.specs.declared.Check.TheVariants.{Fine, Fault}
-use Rattle.route.specs.declared.Counted.{Counted}
-use Rattle.route.specs.declared.Counted.TheVariants.{Count, Refused as NotCounted}
-use Rattle.route.specs.declared.Found.{Found}
-use Rattle.route.specs.declared.Found.TheVariants.{Nothing, Via, Refused}
+use Rattle.route.specs.declared.Hop.{Hop as NextHop}
 
 abbrev pub route_of : Prefix → Route
 route_of p = route p.address p.length.0 p.hop.0
@@ -51,16 +46,16 @@ place (Number p) = p
 place (Cut p) = p
 place (Kind p) = p
 
-abbrev pub verdict_of : Check → Verdict
-verdict_of Fine = fine
-verdict_of (Fault r) = fault (number r) (place r)
+abbrev pub verdict_of : Result (Unit {0}) Refusal → Verdict
+verdict_of (Ok u) = fine
+verdict_of (Err r) = fault (number r) (place r)
 
-abbrev pub counted : Counted → Answer
-counted (Count n) = value n
-counted (NotCounted r) = refused (number r) (place r)
+abbrev pub counted : Result ℕ Refusal → Answer
+counted (Ok n) = value n
+counted (Err r) = refused (number r) (place r)
 
--- no hop is 0: `Via` 0 is no answer of the specification's
-abbrev pub shown : Found → Answer
-shown Nothing = value 0
-shown (Via h) = cond (eqb h.0 0) (refused 0 0) (value h.0)
-shown (Refused r) = refused (number r) (place r)
+-- no hop is 0: a hop 0 is no answer of the specification's
+abbrev pub shown : Result (Option NextHop) Refusal → Answer
+shown (Ok None) = value 0
+shown (Ok (Some h)) = cond (eqb h.0 0) (refused 0 0) (value h.0)
+shown (Err r) = refused (number r) (place r)

@@ -34,10 +34,6 @@ pub struct Length(pub u32);
 #[derive(Clone, Copy)]
 pub struct Hop(pub u32);
 
-// A next hop or none, as a range or a main word holds it: 0 is none.
-#[derive(Clone, Copy)]
-pub struct OptionalHop(pub u32);
-
 // A slot's place in a table.
 #[derive(Clone, Copy)]
 pub struct Slot(pub usize);
@@ -70,49 +66,15 @@ pub enum Refusal {
     Kind(usize),
 }
 
-// What a test finds.
-#[derive(Clone, Copy)]
-pub enum Check {
-    Fine,
-    Fault(Refusal),
-}
-
-// A number of things that were tested or made, or the refusal.
-#[derive(Clone, Copy)]
-pub enum Counted {
-    Count(usize),
-    Refused(Refusal),
-}
-
-// What a lookup finds.
-#[derive(Clone, Copy)]
-pub enum Found {
-    Nothing,
-    Via(Hop),
-    Refused(Refusal),
-}
-
-impl Check {
-    // The first fault of two tests made in this order.
-    pub fn then(self, next: Check) -> Check
-        ensures { verdict_of result ≡ (verdict_of self then verdict_of next) }
+impl Hop {
+    // The hop that a lent row or a main word holds, where 0 is none.
+    pub fn from_row(n: u32) -> Option<Hop>
+        ensures { shown (Ok result) ≡ value n }
     {
-        match self {
-            Check::Fault(f) => Check::Fault(f),
-            Check::Fine => next,
+        match n {
+            0 => None,
+            _ => Some(Hop(n)),
         }
-    }
-}
-
-impl OptionalHop {
-    // What a lookup that comes to it finds.
-    pub fn found(self) -> Found
-        ensures { shown result ≡ value self.0 }
-    {
-        if self.0 == 0 {
-            return Found::Nothing;
-        }
-        Found::Via(Hop(self.0))
     }
 }
 
@@ -143,26 +105,16 @@ impl Refusal {
         ensures { result ≡ place self }
     {
         match self {
-            Refusal::Length(p) => p,
-            Refusal::Address(p) => p,
-            Refusal::Hop(p) => p,
-            Refusal::Twice(p) => p,
-            Refusal::Full => 0,
-            Refusal::Absent => 0,
-            Refusal::Image(p) => p,
-            Refusal::Size => 0,
-            Refusal::Room => 0,
-            Refusal::Plan(p) => p,
-            Refusal::Number(p) => p,
-            Refusal::Cut(p) => p,
-            Refusal::Kind(p) => p,
+            Refusal::Length(p)
+            | Refusal::Address(p)
+            | Refusal::Hop(p)
+            | Refusal::Twice(p)
+            | Refusal::Image(p)
+            | Refusal::Plan(p)
+            | Refusal::Number(p)
+            | Refusal::Cut(p)
+            | Refusal::Kind(p) => p,
+            Refusal::Full | Refusal::Absent | Refusal::Size | Refusal::Room => 0,
         }
     }
-}
-
-// The lesser of two numbers.
-pub fn lesser(m: usize, n: usize) -> usize
-    ensures { result ≡ min m n }
-{
-    if m < n { m } else { n }
 }

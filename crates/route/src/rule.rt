@@ -8,7 +8,7 @@ ghost use Rattle.route.specs.Refusals.{prefix_fault, hop_fault, entry_fault};
 ghost use Rattle.route.specs.Shown.{route_of, verdict_of};
 ghost use Rattle.route.specs.Loops.{IsSpan};
 
-use crate::{Check, Hop, Length, MAX_HOP, Prefix, Refusal};
+use crate::{Hop, Length, MAX_HOP, Prefix, Refusal};
 
 // How many addresses a prefix of length n covers; a length over 32 counts as 32.
 pub fn span_of(n: Length) -> u64
@@ -27,33 +27,32 @@ pub fn covers(p: Prefix, q: u32) -> bool
 }
 
 // Refusal 1 for a length over 32, then 2 for an address that is no multiple of the span.
-pub fn prefix_check(place: usize, address: u32, length: Length) -> Check
+pub fn prefix_check(place: usize, address: u32, length: Length) -> Result<(), Refusal>
     ensures { verdict_of result ≡ prefix_fault 32 place address length.0 }
 {
     if 32 < length.0 {
-        return Check::Fault(Refusal::Length(place));
+        return Err(Refusal::Length(place));
     }
     if (address as u64) % span_of(length) != 0 {
-        return Check::Fault(Refusal::Address(place));
+        return Err(Refusal::Address(place));
     }
-    Check::Fine
+    Ok(())
 }
 
 // Refusal 3 for a hop of 0 or over 65,535.
-pub fn hop_check(place: usize, hop: Hop) -> Check
+pub fn hop_check(place: usize, hop: Hop) -> Result<(), Refusal>
     ensures { verdict_of result ≡ hop_fault place hop.0 }
 {
     if (hop.0 == 0) | (MAX_HOP < hop.0) {
-        return Check::Fault(Refusal::Hop(place));
+        return Err(Refusal::Hop(place));
     }
-    Check::Fine
+    Ok(())
 }
 
 // Refusals 1, 2, 3 of a prefix and its hop, in this order.
-pub fn entry_check(place: usize, p: Prefix) -> Check
+pub fn entry_check(place: usize, p: Prefix) -> Result<(), Refusal>
     ensures { verdict_of result ≡ entry_fault 32 place (route_of p) }
 {
-    let prefix = prefix_check(place, p.address, p.length);
-    let hop = hop_check(place, p.hop);
-    prefix.then(hop)
+    prefix_check(place, p.address, p.length)?;
+    hop_check(place, p.hop)
 }

@@ -1,22 +1,15 @@
--- A list without a fault has equal rows, and the route that is found has a hop.
-use mathlib.Core.Path.{◌≡◌, sym, ap, ◌∙◌}
+-- A list without a fault has rows of a right size, and the route that is found has a hop.
+use mathlib.Core.Path.{◌≡◌, sym}
+use Rattle.route.specs.Refusals.{fine}
 use Rattle.route.specs.Lists.{rows_fault}
-use Rattle.route.specs.Shown.{verdict_of}
-use Rattle.route.proofs.Accepted.{Sized, sized, parts-fault}
 use Rattle.route.proofs.Lookups.{lookup-via}
 use Rattle.route.proofs.list.lookup.Goals as goal
-use Rattle.route.proofs.list.lookup.Goals.{then-n-le-SHORT, else-n-le-SHORT}
 
-pub returns-in-At : goal.returns-in-At
-returns-in-At c =
+pub returns-in-Some : goal.returns-in-Some
+returns-in-Some c =
     let a = c.args in
-    -- the rows have a right size
-    let right : Sized a.addresses.now a.lengths.now a.hops.now = sized _ _ _ (sym (ap verdict_of c.in_default.is) ∙ c.size_check-sized.ensures) in
-    -- what the entries were tested for, few or many
-    let tested : verdict_of c.if-n-le-SHORT.tested ≡ rows_fault 32 a.addresses.now a.lengths.now a.hops.now =
-    elim c.if-n-le-SHORT.branch [
-      | then-n-le-SHORT w ↦ ap verdict_of w.tested-is ∙ w.short_check-tested.ensures
-      | else-n-le-SHORT w ↦ ap verdict_of w.tested-is ∙ parts-fault right 32 w.long_check-tested.ensures
-    ] ∙ sym (right.entries 32) in
-    lookup-via 32 a.addresses.now a.lengths.now a.hops.now a.q (sym tested ∙ ap verdict_of c.in-Fine.is) c.in-At.p.hop
-    (rw c.in-At.is at c.longest_match.ensures)
+    let l = c.in_ok-list.ensures.ok in
+    let good : rows_fault 32 a.addresses.now a.lengths.now a.hops.now ≡ fine =
+    rw (← l.0) (sym (rw (l.1, l.2, l.3) at c.in_ok-check.ensures)) in
+    lookup-via 32 a.addresses.now a.lengths.now a.hops.now a.q good c.in-Some.p.hop
+    (rw (l.1, l.2, l.3) at (rw c.in-Some.is at c.longest_match.ensures))

@@ -1,27 +1,24 @@
 -- Entry by entry: the entries before entry i have no fault, and the filter has the prefix of each; before the inner place j none of them has
--- the prefix of entry i. The measures are what is left of each row.
-use Prim.Native.Nat.{◌-◌}
+-- the prefix of entry i.
 use mathlib.Core.Path.{◌≡◌}
 use lib.ListN
+use Rattle.std.specs.Prelude.{None}
 use Rattle.route.specs.Lists.{same_prefix}
 use Rattle.route.specs.Shown.{route_of}
 use Rattle.route.specs.Loops.{route_at}
 use Rattle.route.proofs.Entries.{CheckedBefore}
 use Rattle.route.proofs.Searches.{NoneBefore}
 use Rattle.route.proofs.Notes.{NotedBefore}
-use Rattle.route.proofs.list.entries_check.Given as goal
+use Rattle.route.proofs.list.List.entries_check.Given as goal
 
 abbrev pub invariant-loop-j : goal.invariant-loop-j
-invariant-loop-j l = NoneBefore (same_prefix (route_of l.p)) (route_at l.addresses l.lengths l.hops) l.i l.j
-
-abbrev pub decreases-loop-j : goal.decreases-loop-j
-decreases-loop-j l = l.i - l.j
+invariant-loop-j l =
+    NoneBefore (same_prefix (route_of l.p)) (route_at l.self.addresses.now l.self.lengths.now l.self.hops.now) l.i l.j
+    × (l.twice ≡ None)
 
 abbrev pub invariant-entries : goal.invariant-entries
 invariant-entries l =
-    CheckedBefore 32 l.addresses l.lengths l.hops l.i
-    × NotedBefore same_prefix (λ r. r.address) (λ r. r.length) (route_at l.addresses l.lengths l.hops) l.filter l.i
+    CheckedBefore 32 l.self.addresses.now l.self.lengths.now l.self.hops.now l.i
+    × NotedBefore same_prefix (λ r. r.address) (λ r. r.length) (route_at l.self.addresses.now l.self.lengths.now l.self.hops.now) l.filter l.i
     × (ListN.length l.filter ≡ ListN.length l.initial.filter)
-
-abbrev pub decreases-entries : goal.decreases-entries
-decreases-entries l = ListN.length l.addresses - l.i
+    × (l.twice ≡ None)
