@@ -1,15 +1,19 @@
 // A filter before a search: where it says that a prefix was never noted, nothing need be searched.
 //
-// Each prefix has one word of a lent row, and two bits of it. To note a prefix is to set its bits;
-// where they are not all set, it was not noted. The row may hold anything at first: a set bit costs
-// a search, and never an answer.
-ghost use Rattle.std.specs.Prelude.{◌≡◌, ◌<◌, length};
+// Each prefix has one word of a row, and two bits of it. To note a prefix is to set its bits; where
+// they are not all set, it was not noted. The row may hold anything at first: a set bit costs a
+// search, and never an answer.
+ghost use Rattle.std.specs.Prelude.{◌≡◌, ◌<◌, ◌≤◌, length};
 ghost use Rattle.route.specs.Filter.{hash_of, word_in, bits_of, Noting};
 
 use crate::Length;
 
-// A word with all bits set. In a row of such words every prefix may have been noted.
-pub const FULL: u64 = 18446744073709551615;
+// A filter of so many words.
+#[derive(Drop)]
+pub struct Filter<const WORDS: usize> {
+    pub words: [u64; WORDS],
+    ghost some: { 0 < WORDS },
+}
 
 // A number for each prefix, of which its word and its bits are parts.
 fn hash(address: u32, n: Length) -> u64
@@ -33,15 +37,33 @@ fn bits_of(h: u64) -> u64
     (1 << ((h >> 32) % 64)) | (1 << ((h >> 38) % 64))
 }
 
-// Notes a prefix; whether it may have been noted before.
-pub fn note(filter: &mut [u64], address: u32, n: Length) -> bool
-    requires { 0 < length filter.old }
-    ensures { Noting filter.old address n.0 result filter.new }
-{
-    let h = hash(address, n);
-    let w = word_in(filter.len(), h);
-    let before = filter[w];
-    let after = before | bits_of(h);
-    filter[w] = after;
-    after == before
+impl<const WORDS: usize> Filter<WORDS> {
+    // A filter in which no prefix was noted.
+    pub fn clear() -> Filter<WORDS>
+        requires { (0 < WORDS) × (WORDS ≤ 4096) }
+    {
+        Filter { words: [0; WORDS] }
+    }
+
+    // A filter that says of every prefix that it may have been noted.
+    pub fn full() -> Filter<WORDS>
+        requires { (0 < WORDS) × (WORDS ≤ 4096) }
+    {
+        Filter {
+            words: [u64::MAX; WORDS],
+        }
+    }
+
+    // Notes a prefix; whether it may have been noted before.
+    pub fn note(&mut self, address: u32, n: Length) -> bool
+        ensures noting { Noting self.old.words address n.0 result self.new.words }
+        ensures words_len_unchanged { length self.new.words ≡ length self.old.words }
+    {
+        let h = hash(address, n);
+        let w = word_in(WORDS, h);
+        let before = self.words[w];
+        let after = before | bits_of(h);
+        self.words[w] = after;
+        after == before
+    }
 }

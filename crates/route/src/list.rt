@@ -14,8 +14,8 @@ ghost use Rattle.route.specs.Lists.{routes, same_prefix, list_fault, rows_size_f
 ghost use Rattle.route.specs.Shown.{number, place, route_of, verdict_of, counted, shown};
 ghost use Rattle.route.specs.Loops.{route_at, match_of};
 
-use crate::filter::FULL;
-use crate::{Hop, Length, MAX_ROUTES, Prefix, Refusal, filter, rule};
+use crate::filter::Filter;
+use crate::{Hop, Length, MAX_ROUTES, Prefix, Refusal, rule};
 
 // A list of no more entries is short: comparing them all takes less time than clearing a filter.
 const SHORT: usize = 8;
@@ -40,7 +40,12 @@ pub fn check(addresses: &[u32], lengths: &[u32], hops: &[u32]) -> Result<usize, 
 }
 
 // The next hop of the longest prefix that matches q; refusals as of `check`.
-pub fn lookup(addresses: &[u32], lengths: &[u32], hops: &[u32], q: u32) -> Result<Option<Hop>, Refusal>
+pub fn lookup(
+    addresses: &[u32],
+    lengths: &[u32],
+    hops: &[u32],
+    q: u32,
+) -> Result<Option<Hop>, Refusal>
     ensures { shown result ≡ list_lookup 32 addresses.now lengths.now hops.now q }
 {
     let list = List::new(addresses, lengths, hops)?;
@@ -55,7 +60,7 @@ pub fn lookup(addresses: &[u32], lengths: &[u32], hops: &[u32], q: u32) -> Resul
 fn has_prefix(p: Prefix, o: Prefix) -> bool
     ensures { result ≡ same_prefix (route_of p) (route_of o) }
 {
-    (p.address == o.address) & (p.length.0 == o.length.0)
+    (p.address == o.address) & (p.length == o.length)
 }
 
 impl<'a> List<'a> {
@@ -68,7 +73,11 @@ impl<'a> List<'a> {
         if !((n == lengths.len()) & (n == hops.len()) & (n <= MAX_ROUTES)) {
             return Err(Refusal::Size);
         }
-        Ok(List { addresses, lengths, hops })
+        Ok(List {
+            addresses,
+            lengths,
+            hops,
+        })
     }
 
     fn len(&self) -> usize
@@ -91,15 +100,14 @@ impl<'a> List<'a> {
 
     // Entry by entry the refusals 1 to 4. Where the filter says that an entry's prefix was not noted, no
     // earlier entry has it.
-    fn entries_check(&self, filter: &mut [u64]) -> Result<(), Refusal>
-        requires { 0 < length filter.old }
+    fn check_with<const WORDS: usize>(&self, mut filter: Filter<WORDS>) -> Result<(), Refusal>
         ensures { verdict_of result ≡ list_fault 32 0 [] (routes self.now.addresses.now self.now.lengths.now self.now.hops.now) }
     {
         let mut twice = None;
         'entries: for i in 0..self.len() {
             let p = self.entry(i);
             rule::entry_check(i, p)?;
-            if filter::note(filter, p.address, p.length) {
+            if filter.note(p.address, p.length) {
                 for j in 0..i {
                     if has_prefix(p, self.entry(j)) {
                         twice = Some(i);
@@ -114,31 +122,23 @@ impl<'a> List<'a> {
         }
     }
 
-    // The same with a filter of so many words, which is cleared at every call.
-    fn check_with<const WORDS: usize>(&self, word: u64) -> Result<(), Refusal>
-        requires { (0 < WORDS) × (WORDS ≤ 4096) }
-        ensures { verdict_of result ≡ list_fault 32 0 [] (routes self.now.addresses.now self.now.lengths.now self.now.hops.now) }
-    {
-        let mut filter = [word; WORDS];
-        self.entries_check(&mut filter)
-    }
-
-    // The same with a filter whose size goes with the list's.
+    // The same with a filter that is cleared at every call, so there are three sizes of it.
     fn long_check(&self) -> Result<(), Refusal>
         ensures { verdict_of result ≡ list_fault 32 0 [] (routes self.now.addresses.now self.now.lengths.now self.now.hops.now) }
     {
         match self.len() {
-            0..=64 => self.check_with::<16>(0),
-            65..=1024 => self.check_with::<512>(0),
-            _ => self.check_with::<4096>(0),
+            0..=64 => self.check_with(Filter::<16>::clear()),
+            65..=1024 => self.check_with(Filter::<512>::clear()),
+            _ => self.check_with(Filter::<4096>::clear()),
         }
     }
 
+    // The same. Where the list is short, all earlier entries are compared, and no row is cleared.
     fn check(&self) -> Result<(), Refusal>
         ensures { verdict_of result ≡ list_fault 32 0 [] (routes self.now.addresses.now self.now.lengths.now self.now.hops.now) }
     {
         if self.len() <= SHORT {
-            return self.check_with::<1>(FULL);
+            return self.check_with(Filter::<1>::full());
         }
         self.long_check()
     }
@@ -162,7 +162,7 @@ fn improve(m: Option<Prefix>, hit: bool, p: Prefix) -> Option<Prefix>
 {
     match m {
         _ if !hit => m,
-        Some(o) if p.length.0 <= o.length.0 => m,
+        Some(o) if p.length <= o.length => m,
         _ => Some(p),
     }
 }

@@ -1,7 +1,6 @@
 -- Entry by entry: the entries before entry i have no fault, and the filter has the prefix of each; before the inner place j none of them has
 -- the prefix of entry i.
 use mathlib.Core.Path.{◌≡◌}
-use lib.ListN
 use Rattle.std.specs.Prelude.{None}
 use Rattle.route.specs.Lists.{same_prefix}
 use Rattle.route.specs.Shown.{route_of}
@@ -9,16 +8,15 @@ use Rattle.route.specs.Loops.{route_at}
 use Rattle.route.proofs.Entries.{CheckedBefore}
 use Rattle.route.proofs.Searches.{NoneBefore}
 use Rattle.route.proofs.Notes.{NotedBefore}
-use Rattle.route.proofs.list.List.entries_check.Given as goal
+use Rattle.route.proofs.list.List.check_with.Given as goal
 
 abbrev pub invariant-loop-j : goal.invariant-loop-j
-invariant-loop-j l =
+invariant-loop-j g l =
     NoneBefore (same_prefix (route_of l.p)) (route_at l.self.addresses.now l.self.lengths.now l.self.hops.now) l.i l.j
     × (l.twice ≡ None)
 
 abbrev pub invariant-entries : goal.invariant-entries
-invariant-entries l =
+invariant-entries g l =
     CheckedBefore 32 l.self.addresses.now l.self.lengths.now l.self.hops.now l.i
-    × NotedBefore same_prefix (λ r. r.address) (λ r. r.length) (route_at l.self.addresses.now l.self.lengths.now l.self.hops.now) l.filter l.i
-    × (ListN.length l.filter ≡ ListN.length l.initial.filter)
+    × NotedBefore same_prefix (λ r. r.address) (λ r. r.length) (route_at l.self.addresses.now l.self.lengths.now l.self.hops.now) l.filter.words l.i
     × (l.twice ≡ None)
