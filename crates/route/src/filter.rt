@@ -38,19 +38,13 @@ fn bits_of(h: u64) -> u64
 }
 
 impl<const WORDS: usize> Filter<WORDS> {
-    // A filter in which no prefix was noted.
-    pub fn clear() -> Filter<WORDS>
-        requires { (0 < WORDS) × (WORDS ≤ 4096) }
-    {
-        Filter { words: [0; WORDS] }
-    }
-
-    // A filter that says of every prefix that it may have been noted.
-    pub fn full() -> Filter<WORDS>
+    // A filter whose words are all the same: 0 where no prefix was noted, all ones where every prefix may
+    // have been.
+    pub fn of(word: u64) -> Filter<WORDS>
         requires { (0 < WORDS) × (WORDS ≤ 4096) }
     {
         Filter {
-            words: [u64::MAX; WORDS],
+            words: [word; WORDS],
         }
     }
 

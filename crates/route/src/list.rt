@@ -4,9 +4,8 @@
 // and whether an earlier entry has its prefix. A filter is asked first, so that earlier entries are
 // hardly ever compared. The longest match is found from the list's end.
 //
-// Both calls ask whether the list is short. So `long_check` has two callers and stays a function of its
-// own in the compiled code: its filters are in no frame of a short list. It is handed slices of its
-// own, so that those of a short list stay in registers.
+// The check of a longer list is a function of its own in the compiled code, so that its filters are in no
+// frame of a short one.
 ghost use Rattle.std.specs.Prelude.{◌≡◌, ◌<◌, ◌≤◌, [], length, IfOk, IfErr};
 ghost use Rattle.route.specs.Rule.{improved, longest};
 ghost use Rattle.route.specs.Refusals.{value, unless_fault, fine, fault};
@@ -98,11 +97,13 @@ impl<'a> List<'a> {
         }
     }
 
-    // Entry by entry the refusals 1 to 4. Where the filter says that an entry's prefix was not noted, no
-    // earlier entry has it.
-    fn check_with<const WORDS: usize>(&self, mut filter: Filter<WORDS>) -> Result<(), Refusal>
+    // Entry by entry the refusals 1 to 4, with a filter of so many words. Where it says that an entry's
+    // prefix was not noted, no earlier entry has it.
+    fn check_with<const WORDS: usize>(&self, word: u64) -> Result<(), Refusal>
+        requires { (0 < WORDS) × (WORDS ≤ 4096) }
         ensures { verdict_of result ≡ list_fault 32 0 [] (routes self.now.addresses.now self.now.lengths.now self.now.hops.now) }
     {
+        let mut filter = Filter::<WORDS>::of(word);
         let mut twice = None;
         'entries: for i in 0..self.len() {
             let p = self.entry(i);
@@ -122,23 +123,24 @@ impl<'a> List<'a> {
         }
     }
 
-    // The same with a filter that is cleared at every call, so there are three sizes of it.
+    // The same with a filter whose size goes with the list's, since it is cleared at every call.
+    #[inline(never)]
     fn long_check(&self) -> Result<(), Refusal>
         ensures { verdict_of result ≡ list_fault 32 0 [] (routes self.now.addresses.now self.now.lengths.now self.now.hops.now) }
     {
         match self.len() {
-            0..=64 => self.check_with(Filter::<16>::clear()),
-            65..=1024 => self.check_with(Filter::<512>::clear()),
-            _ => self.check_with(Filter::<4096>::clear()),
+            0..=64 => self.check_with::<16>(0),
+            65..=1024 => self.check_with::<512>(0),
+            _ => self.check_with::<4096>(0),
         }
     }
 
-    // The same. Where the list is short, all earlier entries are compared, and no row is cleared.
+    // The same. In a short list all earlier entries are compared: every bit of its filter is set.
     fn check(&self) -> Result<(), Refusal>
         ensures { verdict_of result ≡ list_fault 32 0 [] (routes self.now.addresses.now self.now.lengths.now self.now.hops.now) }
     {
         if self.len() <= SHORT {
-            return self.check_with(Filter::<1>::full());
+            return self.check_with::<1>(u64::MAX);
         }
         self.long_check()
     }
