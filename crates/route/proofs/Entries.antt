@@ -14,18 +14,9 @@ use Rattle.route.specs.Rule.{Route, route, Match, longest}
 use Rattle.route.specs.Refusals.{fine, fault, fault_if, ◌then◌, entry_fault, twice_refusal}
 use Rattle.route.specs.Lists.{EqualRows, routes, same_prefix, has_prefix, list_fault}
 use Rattle.route.specs.RightHop.{◌∈◌}
-use Rattle.route.specs.Loops.{before, route_at}
+use Rattle.route.specs.Loops.{before, entry_of}
 use Rattle.route.proofs.Members.{each_of}
 use Rattle.route.proofs.Tests.{and_parts}
-
--- the entries from entry i on begin with entry i
-pub routes-at : (ad ns hs : List ℕ) (i : ℕ) → EqualRows ad ns hs → i < length ad →
-    routes (drop i ad) (drop i ns) (drop i hs)
-    ≡ route_at ad ns hs i ∷ routes (drop (i + 1) ad) (drop (i + 1) ns) (drop (i + 1) hs)
-routes-at ad ns hs i e l =
-    let m : i < length ns = omega arith in
-    let n : i < length hs = omega arith in
-    rw (add-one, drop-cons ad i 0, drop-cons ns i 0, drop-cons hs i 0)
 
 -- as many routes as entries, in the same places
 pub routes-length : (ad ns hs : List ℕ) → EqualRows ad ns hs → length (routes ad ns hs) ≡ length ad
@@ -35,7 +26,8 @@ routes-length (a ∷ ad) (n ∷ ns) [] e = absurd (omega (arith, e.third))
 routes-length (a ∷ ad) (n ∷ ns) (h ∷ hs) e =
     ap suc (routes-length ad ns hs (record { second = omega (arith, e.second); third = omega (arith, e.third) }))
 
-pub routes-get : (ad ns hs : List ℕ) (i : ℕ) → EqualRows ad ns hs → get_or (routes ad ns hs) i (route 0 0 0) ≡ route_at ad ns hs i
+pub routes-get : (ad ns hs : List ℕ) (i : ℕ) → EqualRows ad ns hs →
+    entry_of (routes ad ns hs) i ≡ route (get_or ad i 0) (get_or ns i 0) (get_or hs i 0)
 routes-get [] [] [] i e = refl
 routes-get [] (n ∷ ns) hs i e = absurd (omega (arith, e.second))
 routes-get [] [] (h ∷ hs) i e = absurd (omega (arith, e.third))
@@ -61,36 +53,37 @@ one-prefix r s e =
     (eqb-true _ _ p.0, eqb-true _ _ p.1)
 
 -- the search from the end: m is the longest match of the entries from entry i on
-pub record LongestFrom (W : ℕ) (ad ns hs : List ℕ) (q : ℕ) (m : Match) (i : ℕ) : Type 0 where
-  pub within : i ≤ length ad
-  pub equal : EqualRows ad ns hs
-  pub right : m ≡ longest W (routes (drop i ad) (drop i ns) (drop i hs)) q
+pub record LongestFrom (W : ℕ) (rs : List Route) (q : ℕ) (m : Match) (i : ℕ) : Type 0 where
+  pub within : i ≤ length rs
+  pub right : m ≡ longest W (drop i rs) q
+
+-- the entries from entry i on begin with entry i
+entries-at : (rs : List Route) (i : ℕ) → i < length rs → drop i rs ≡ entry_of rs i ∷ drop (i + 1) rs
+entries-at rs i l = rw (add-one, drop-cons rs i (route 0 0 0))
 
 -- entry i's verdict, then what comes after it
-list_at : (W : ℕ) (ad ns hs : List ℕ) (i : ℕ) → EqualRows ad ns hs → i < length ad →
-    list_fault W i (before (route_at ad ns hs) i) (routes (drop i ad) (drop i ns) (drop i hs))
-    ≡ (entry_fault W i (route_at ad ns hs i)
-    then fault_if (has_prefix (route_at ad ns hs i) (before (route_at ad ns hs) i)) twice_refusal i
-    then list_fault W (i + 1) (before (route_at ad ns hs) (suc i)) (routes (drop (i + 1) ad) (drop (i + 1) ns) (drop (i + 1) hs)))
-list_at W ad ns hs i e l = rw (routes-at ad ns hs i e l)
+list_at : (W : ℕ) (rs : List Route) (i : ℕ) → i < length rs →
+    list_fault W i (before (entry_of rs) i) (drop i rs)
+    ≡ (entry_fault W i (entry_of rs i)
+    then fault_if (has_prefix (entry_of rs i) (before (entry_of rs) i)) twice_refusal i
+    then list_fault W (i + 1) (before (entry_of rs) (suc i)) (drop (i + 1) rs))
+list_at W rs i l = rw (entries-at rs i l)
 
 -- the entries before entry i have no fault: what is left gives the whole verdict
-pub record CheckedBefore (W : ℕ) (ad ns hs : List ℕ) (i : ℕ) : Type 0 where
-  pub within : i ≤ length ad
-  pub equal : EqualRows ad ns hs
-  pub left : list_fault W i (before (route_at ad ns hs) i) (routes (drop i ad) (drop i ns) (drop i hs)) ≡ list_fault W 0 [] (routes ad ns hs)
+pub record CheckedBefore (W : ℕ) (rs : List Route) (i : ℕ) : Type 0 where
+  pub within : i ≤ length rs
+  pub left : list_fault W i (before (entry_of rs) i) (drop i rs) ≡ list_fault W 0 [] rs
 
 -- r is entry i
-module _ {W : ℕ} {ad ns hs : List ℕ} {i : ℕ} (s : CheckedBefore W ad ns hs i) (l : i < length ad) {r : Route} (is : r ≡ route_at ad ns hs i) where
-  pub checked-twice : fine ≡ entry_fault W i r → has_prefix r (before (route_at ad ns hs) i) ≡ true → fault twice_refusal i ≡ list_fault W 0 [] (routes ad ns hs)
-  checked-twice e t = rw (list_at W ad ns hs i s.equal l, ← (rw is at e), rw is at t) at s.left
+module _ {W : ℕ} {rs : List Route} {i : ℕ} (s : CheckedBefore W rs i) (l : i < length rs) {r : Route} (is : r ≡ entry_of rs i) where
+  pub checked-twice : fine ≡ entry_fault W i r → has_prefix r (before (entry_of rs) i) ≡ true → fault twice_refusal i ≡ list_fault W 0 [] rs
+  checked-twice e t = rw (list_at W rs i l, ← (rw is at e), rw is at t) at s.left
 
-  pub checked-turn : fine ≡ entry_fault W i r → has_prefix r (before (route_at ad ns hs) i) ≡ false → CheckedBefore W ad ns hs (i + 1)
+  pub checked-turn : fine ≡ entry_fault W i r → has_prefix r (before (entry_of rs) i) ≡ false → CheckedBefore W rs (i + 1)
   checked-turn e t = record {
     within = omega arith;
-    equal = s.equal;
-    left = rw (ap (before (route_at ad ns hs)) (add-one i)) (rw (list_at W ad ns hs i s.equal l, ← (rw is at e), rw is at t) at s.left);
+    left = rw (ap (before (entry_of rs)) (add-one i)) (rw (list_at W rs i l, ← (rw is at e), rw is at t) at s.left);
   }
 
-pub checked-end : {W : ℕ} {ad ns hs : List ℕ} {i : ℕ} → CheckedBefore W ad ns hs i → length ad ≤ i → fine ≡ list_fault W 0 [] (routes ad ns hs)
-checked-end {ad = ad} s l = rw (drop_of_length-le ad l) at s.left
+pub checked-end : {W : ℕ} {rs : List Route} {i : ℕ} → CheckedBefore W rs i → length rs ≤ i → fine ≡ list_fault W 0 [] rs
+checked-end {rs = rs} s l = rw (drop_of_length-le rs l) at s.left

@@ -10,4 +10,5 @@ pub mod RowsOfSet
 -- What the code's enums show, and what only loops need.
 pub mod Shown
 pub mod Loops
+pub mod Entries
 pub mod Filter

@@ -20,8 +20,8 @@ places_from at i zero = []
 places_from at i (suc k) = at (i + k) ∷ places_from at i k
 
 -- entry i of a list
-abbrev pub route_at : List ℕ → List ℕ → List ℕ → ℕ → Route
-route_at ad ns hs i = route (get_or ad i 0) (get_or ns i 0) (get_or hs i 0)
+abbrev pub entry_of : List Route → ℕ → Route
+entry_of rs i = get_or rs i (route 0 0 0)
 
 -- the longest match so far
 abbrev pub match_of : Option Prefix → Match

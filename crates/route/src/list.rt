@@ -6,12 +6,12 @@
 //
 // The check of a longer list is a function of its own in the compiled code, so that its filters are in no
 // frame of a short one.
-ghost use Rattle.std.specs.Prelude.{◌≡◌, ◌<◌, ◌≤◌, [], length, IfOk, IfErr};
-ghost use Rattle.route.specs.Rule.{improved, longest};
+ghost use Rattle.std.specs.Prelude.{◌≡◌, ◌<◌, ◌≤◌, List, [], length, IfOk, IfErr};
+ghost use Rattle.route.specs.Rule.{Route, improved, longest};
 ghost use Rattle.route.specs.Refusals.{value, unless_fault, fine, fault};
 ghost use Rattle.route.specs.Lists.{routes, same_prefix, list_fault, rows_size_fault, list_check, list_lookup, EqualRows};
 ghost use Rattle.route.specs.Shown.{number, place, route_of, verdict_of, counted, shown};
-ghost use Rattle.route.specs.Loops.{route_at, match_of};
+ghost use Rattle.route.specs.Loops.{entry_of, match_of};
 
 use crate::filter::Filter;
 use crate::{Hop, Length, MAX_ROUTES, Prefix, Refusal, rule};
@@ -19,7 +19,7 @@ use crate::{Hop, Length, MAX_ROUTES, Prefix, Refusal, rule};
 // A list of no more entries is short: comparing them all takes less time than clearing a filter.
 const SHORT: usize = 8;
 
-// Three rows of one length: an entry's address, its prefix length and its hop each have its place.
+// A list in three rows of one length: each entry's address, prefix length and hop.
 #[derive(Clone, Copy)]
 pub struct List<'a> {
     pub addresses: &'a [u32],
@@ -63,8 +63,14 @@ fn has_prefix(p: Prefix, o: Prefix) -> bool
 }
 
 impl<'a> List<'a> {
+    ghost use Rattle.route.specs.Entries.{routes_of};
+
     // The list that three rows are, or refusal 8: unequal rows, or too many entries.
-    fn new(addresses: &'a [u32], lengths: &'a [u32], hops: &'a [u32]) -> Result<List<'a>, Refusal>
+    pub fn new(
+        addresses: &'a [u32],
+        lengths: &'a [u32],
+        hops: &'a [u32],
+    ) -> Result<List<'a>, Refusal>
         ensures ok { IfOk result (λ list. (fine ≡ rows_size_fault addresses.now lengths.now hops.now) × (list.addresses.now ≡ addresses.now) × (list.lengths.now ≡ lengths.now) × (list.hops.now ≡ hops.now)) }
         ensures err { IfErr result (λ r. fault (number r) (place r) ≡ rows_size_fault addresses.now lengths.now hops.now) }
     {
@@ -79,16 +85,17 @@ impl<'a> List<'a> {
         })
     }
 
-    fn len(&self) -> usize
-        ensures { result ≡ length self.now.addresses.now }
+    pub fn len(&self) -> usize
+        ensures addresses { result ≡ length self.now.addresses.now }
+        ensures routes { result ≡ length (routes_of self.now) }
     {
         self.addresses.len()
     }
 
     // Entry i.
-    fn entry(&self, i: usize) -> Prefix
+    pub fn entry(&self, i: usize) -> Prefix
         requires { i < length self.now.addresses.now }
-        ensures { route_of result ≡ route_at self.now.addresses.now self.now.lengths.now self.now.hops.now i }
+        ensures { route_of result ≡ entry_of (routes_of self.now) i }
     {
         Prefix {
             address: self.addresses[i],
@@ -101,7 +108,7 @@ impl<'a> List<'a> {
     // prefix was not noted, no earlier entry has it.
     fn check_with<const WORDS: usize>(&self, word: u64) -> Result<(), Refusal>
         requires { (0 < WORDS) × (WORDS ≤ 4096) }
-        ensures { verdict_of result ≡ list_fault 32 0 [] (routes self.now.addresses.now self.now.lengths.now self.now.hops.now) }
+        ensures { verdict_of result ≡ list_fault 32 0 [] (routes_of self.now) }
     {
         let mut filter = Filter::<WORDS>::of(word);
         let mut twice = None;
@@ -126,7 +133,7 @@ impl<'a> List<'a> {
     // The same with a filter whose size goes with the list's, since it is cleared at every call.
     #[inline(never)]
     fn long_check(&self) -> Result<(), Refusal>
-        ensures { verdict_of result ≡ list_fault 32 0 [] (routes self.now.addresses.now self.now.lengths.now self.now.hops.now) }
+        ensures { verdict_of result ≡ list_fault 32 0 [] (routes_of self.now) }
     {
         match self.len() {
             0..=64 => self.check_with::<16>(0),
@@ -136,8 +143,8 @@ impl<'a> List<'a> {
     }
 
     // The same. In a short list all earlier entries are compared: every bit of its filter is set.
-    fn check(&self) -> Result<(), Refusal>
-        ensures { verdict_of result ≡ list_fault 32 0 [] (routes self.now.addresses.now self.now.lengths.now self.now.hops.now) }
+    pub fn check(&self) -> Result<(), Refusal>
+        ensures { verdict_of result ≡ list_fault 32 0 [] (routes_of self.now) }
     {
         if self.len() <= SHORT {
             return self.check_with::<1>(u64::MAX);
@@ -147,7 +154,7 @@ impl<'a> List<'a> {
 
     // The longest match, found from the list's end.
     fn longest_match(&self, q: u32) -> Option<Prefix>
-        ensures { match_of result ≡ longest 32 (routes self.now.addresses.now self.now.lengths.now self.now.hops.now) q }
+        ensures { match_of result ≡ longest 32 (routes_of self.now) q }
     {
         let mut best = None;
         for i in (0..self.len()).rev() {

@@ -4,6 +4,7 @@ use mathlib.Core.Path.{◌≡◌, sym, ◌∙◌}
 use lib.ListN.{length}
 use native.Mathlib.Omega.{arith}
 use Prim.Native.Nat.{◌<◌}
+use Rattle.route.specs.Entries.{routes_of}
 use Rattle.route.specs.Shown.{route_of}
 use Rattle.route.proofs.Entries.{checked-twice, checked-turn, one-prefix}
 use Rattle.route.proofs.Searches.{none-hit}
@@ -24,7 +25,7 @@ returns-in-Some g c =
 pub entries-preserved : goal.entries-preserved
 entries-preserved g c =
     let inv = c.entries.invariant in
-    let inside : c.entries.i < length c.args.self.now.addresses.now = omega arith in
+    let inside : c.entries.i < length (routes_of c.args.self.now) = omega arith in
     let noted = noted-turn inv.1 one-prefix c.entry-p.ensures c.note.ensures.noting c.note.ensures.words_len_unchanged in
     elim c.if-note.branch [
       | then-note+else-loop-j-test w ↦

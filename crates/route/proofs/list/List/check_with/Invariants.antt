@@ -4,7 +4,8 @@ use mathlib.Core.Path.{◌≡◌}
 use Rattle.std.specs.Prelude.{None}
 use Rattle.route.specs.Lists.{same_prefix}
 use Rattle.route.specs.Shown.{route_of}
-use Rattle.route.specs.Loops.{route_at}
+use Rattle.route.specs.Entries.{routes_of}
+use Rattle.route.specs.Loops.{entry_of}
 use Rattle.route.proofs.Entries.{CheckedBefore}
 use Rattle.route.proofs.Searches.{NoneBefore}
 use Rattle.route.proofs.Notes.{NotedBefore}
@@ -12,11 +13,11 @@ use Rattle.route.proofs.list.List.check_with.Given as goal
 
 abbrev pub invariant-loop-j : goal.invariant-loop-j
 invariant-loop-j g l =
-    NoneBefore (same_prefix (route_of l.p)) (route_at l.self.addresses.now l.self.lengths.now l.self.hops.now) l.i l.j
+    NoneBefore (same_prefix (route_of l.p)) (entry_of (routes_of l.self)) l.i l.j
     × (l.twice ≡ None)
 
 abbrev pub invariant-entries : goal.invariant-entries
 invariant-entries g l =
-    CheckedBefore 32 l.self.addresses.now l.self.lengths.now l.self.hops.now l.i
-    × NotedBefore same_prefix (λ r. r.address) (λ r. r.length) (route_at l.self.addresses.now l.self.lengths.now l.self.hops.now) l.filter.words l.i
+    CheckedBefore 32 (routes_of l.self) l.i
+    × NotedBefore same_prefix (λ r. r.address) (λ r. r.length) (entry_of (routes_of l.self)) l.filter.words l.i
     × (l.twice ≡ None)
