@@ -14,6 +14,11 @@ use Rattle.route.specs.declared.Hop.{Hop as NextHop}
 abbrev pub route_of : Prefix → Route
 route_of p = route p.address p.length.0 p.hop.0
 
+-- the number of a hop or none
+abbrev pub hop_number : Option NextHop → ℕ
+hop_number None = 0
+hop_number (Some h) = h.0
+
 -- the number of a refusal
 abbrev pub number : Refusal → ℕ
 number (Length p) = length_refusal

@@ -1,12 +1,12 @@
 // Routes: the types of the whole library, its refusals, and the plain answer over a list.
 //
 // A slot number, a next-hop number and a prefix length are small numbers of three sorts. Each is a
-// struct of its own, so that no call takes one for another. A call answers an enum of its own; the
-// definitions of specs/Shown give the number and the place for each case, and every contract goes
-// through them.
+// struct of its own, so that no call takes one for another. A call answers a `Result`, with a
+// `Refusal` as its error; the definitions of specs/Shown give the number and the place of each, and
+// every contract goes through them.
 //
-// Where no prefix matches there is no next hop. That is a case, `Found::Nothing`, and never a hop. A
-// range and a main word hold a number all the same, an `OptionalHop`.
+// Where no prefix matches there is no next hop: a lookup finds an `Option`. A lent row, a range and a
+// main word hold a number, which is 0 for none.
 #![tactic(auto)]
 
 pub mod filter;
@@ -14,9 +14,9 @@ pub mod list;
 pub mod order;
 pub mod rule;
 
-ghost use Rattle.std.specs.Prelude.{◌≡◌, min};
-ghost use Rattle.route.specs.Refusals.{◌then◌, value};
-ghost use Rattle.route.specs.Shown.{number, place, verdict_of, shown};
+ghost use Rattle.std.specs.Prelude.{◌≡◌, Ok};
+ghost use Rattle.route.specs.Refusals.{value};
+ghost use Rattle.route.specs.Shown.{hop_number, number, place, shown};
 
 // The most entries of a list.
 pub const MAX_ROUTES: usize = 4096;
@@ -67,13 +67,24 @@ pub enum Refusal {
 }
 
 impl Hop {
-    // The hop that a lent row or a main word holds, where 0 is none.
-    pub fn from_row(n: u32) -> Option<Hop>
-        ensures { shown (Ok result) ≡ value n }
+    // The hop that a number says; 0 is none.
+    pub fn new(n: u32) -> Option<Hop>
+        ensures number { hop_number result ≡ n }
+        ensures shown { shown (Ok result) ≡ value n }
     {
         match n {
             0 => None,
             _ => Some(Hop(n)),
+        }
+    }
+
+    // The number of a hop, 0 where there is none.
+    pub fn number_of(hop: Option<Hop>) -> u32
+        ensures { result ≡ hop_number hop }
+    {
+        match hop {
+            None => 0,
+            Some(h) => h.0,
         }
     }
 }
