@@ -13,3 +13,4 @@ pub mod Download
 -- What the code's types show, and what only loops need.
 pub mod Shown
 pub mod Loops
+pub mod InTurn

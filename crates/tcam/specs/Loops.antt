@@ -1,28 +1,22 @@
 -- What the contracts of leaves and of loops speak of. No promise of a public call cites it.
-use Rattle.std.specs.Prelude.{◌≡◌, ℕ, zero, suc, ◌+◌, ◌-◌, ◌*◌, ◌/◌, ◌<◌, ◌≤◌, Bool, true, false, cond, not, ◌&&◌, ◌||◌, List, [], ◌∷◌, length, ◌==◌, nat_le, nat_lt, slice_index}
+use Rattle.std.specs.Prelude.{◌≡◌, ℕ, zero, suc, ◌+◌, ◌-◌, ◌*◌, ◌/◌, ◌<◌, ◌≤◌, Bool, true, false, cond, not, ◌&&◌, ◌||◌, List, [], ◌∷◌, length, get_or, ◌==◌, nat_le, nat_lt, slice_index, Option as Optional, None, Some, Result, Ok, Err}
 use Rattle.std.proofs.Math.Option.{Option, none, some}
 use Rattle.route.specs.Refusals.{Verdict, fine, fault, fault_if, ◌then◌, image_refusal}
 use Rattle.route.specs.Shown.{number, place}
 use Rattle.route.specs.PrefixOrder.{key_of}
 use Rattle.route.specs.Lists.{any}
 use Rattle.route.specs.Loops.{before, places_from}
+use Rattle.route.specs.declared.Slot.{Slot}
+use Rattle.route.specs.declared.Refusal.{Refusal}
+use Rattle.route.specs.declared.Refusal.TheVariants.{Image}
 use Rattle.tcam.specs.Slots.{Cell, cell, cells, max_slots, slot_fault, is_free, is_upper, is_lower, length_in, keeps_s1, longer_than_nearest, misplaced, repeats}
-use Rattle.tcam.specs.Plans.{Write, write, first_slot, last_slot, of_length, rising, falling, is_some, or_else, chain}
+use Rattle.tcam.specs.Plans.{Write, write, first_slot, last_slot, of_length, rising, falling, is_some, or_else}
 use Rattle.tcam.specs.Runs.{run_of, InOrder}
 use Rattle.tcam.specs.Mend.{order_fault, contradicts, repeat_fault, repeat_slot}
 use Rattle.tcam.specs.Download.{From, is_to_come, next_in, Next, entry_or_end, next_unless}
-use Rattle.tcam.specs.Shown.{place_of}
+use Rattle.tcam.specs.Shown.{cell_at, place_of}
 use Rattle.tcam.specs.declared.image.Seen.{Seen}
-use Rattle.tcam.specs.declared.mend.Repeat.{Repeat}
-use Rattle.tcam.specs.declared.mend.Repeat.TheVariants.{Found, Refused}
 use Rattle.tcam.specs.declared.mend.Repeats.{Repeats}
-use Rattle.tcam.specs.declared.plan.Place.TheVariants.{Nowhere, At}
-use Rattle.route.specs.declared.Refusal.TheVariants.{Image}
-use Rattle.tcam.specs.declared.plan.Lengths.{Lengths}
-
--- slot i of two rows
-abbrev pub cell_at : List ℕ → List ℕ → ℕ → Cell
-cell_at ad ts i = cell (slice_index ad i) (slice_index ts i)
 
 -- the address of slot i
 abbrev pub address_at : List ℕ → ℕ → ℕ
@@ -121,46 +115,20 @@ lengths_from false k l = falling k l
 abbrev pub lengths_to : ℕ → Bool → ℕ → List ℕ
 lengths_to W up n = cond (nat_le (W / 2) n) (lengths_from up (n - W / 2) (W / 2)) (lengths_from up (W / 2 - 1 - n) (n + 1))
 
--- the first of k lengths from l on
-abbrev pub length_at : Bool → ℕ → ℕ → ℕ
-length_at true k l = l
-length_at false k l = l + (k - 1)
-
-abbrev pub lengths_of : Lengths → List ℕ
-lengths_of r = lengths_from r.up r.count r.from.0
-
--- lengths in turn without the first
-pub record ShorterBy (r next : Lengths) : Type 0 where
-  pub same : next.up ≡ r.up
-  pub is : lengths_of r ≡ length_at r.up r.count r.from.0 ∷ lengths_of next
-  pub less : suc next.count ≡ r.count
-  pub within : next.from.0 + next.count ≤ r.from.0 + r.count
-
--- the copies of the lengths' edge entries, then the last cell
-abbrev pub chain_of : Lengths → List Cell → ℕ → Cell → List Write
-chain_of r cs at last = chain (edge_of r.up cs) cs (lengths_of r) at last
-
 -- how many of the lengths have an edge slot
 abbrev pub moves : (ℕ → Option ℕ) → List ℕ → ℕ
 moves edge [] = 0
 moves edge (l ∷ ls) = cond (is_some (edge l)) 1 0 + moves edge ls
 
--- a row of edge slots has a number for each length, and a last one for the free slots: 0 for none, s + 1 for slot s
-abbrev pub as_slot : ℕ → Option ℕ
-as_slot zero = none
-as_slot (suc s) = some s
+-- the edge slot of a group in a row of them
+abbrev pub edge_slot : List (Optional Slot) → ℕ → Option ℕ
+edge_slot edges g = place_of (get_or edges g None)
 
-abbrev pub slot_in : List ℕ → ℕ → Option ℕ
-slot_in row l = as_slot (slice_index row l)
-
--- the group of a cell: the free slots are behind all lengths
-abbrev pub group_of : ℕ → Cell → ℕ
-group_of W c = cond (is_free c) (W + 1) (length_in c)
-
-pub record EdgesOf (W : ℕ) (up : Bool) (cs : List Cell) (row : List ℕ) : Type 0 where
-  pub size : length row ≡ W + 2
-  pub of : (l : ℕ) → l ≤ W → slot_in row l ≡ edge_of up cs l
-  pub pool : slot_in row (W + 1) ≡ edge up is_free cs
+-- a row has the edge slot of each length, and of the free slots behind all lengths
+pub record EdgesOf (W : ℕ) (up : Bool) (cs : List Cell) (edges : List (Optional Slot)) : Type 0 where
+  pub size : length edges ≡ W + 2
+  pub of : (l : ℕ) → l ≤ W → edge_slot edges l ≡ edge_of up cs l
+  pub pool : edge_slot edges (W + 1) ≡ edge up is_free cs
 
 -- the slot that a pass over M slots comes to after k others: from the last one back for first slots, from slot 0 on for last ones
 abbrev pub visited : Bool → ℕ → ℕ → ℕ
@@ -197,13 +165,18 @@ EntryAt ad ts none = Unit {0}
 EntryAt ad ts (some s) = (s < length ad) × (is_free (cell_at ad ts s) ≡ false)
 
 -- a refusal, or the slot that was sought
-abbrev pub IsRepeat : Repeat → Verdict → Option ℕ → Type 0
-IsRepeat (Refused f) v o = fault (number f) (place f) ≡ v
-IsRepeat (Found p) v o = (fine ≡ v) × (place_of p ≡ o)
+abbrev pub IsRepeat : Result (Optional Slot) Refusal → Verdict → Option ℕ → Type 0
+IsRepeat (Err f) v o = fault (number f) (place f) ≡ v
+IsRepeat (Ok p) v o = (fine ≡ v) × (place_of p ≡ o)
+
+-- a slot that is refused, or else the slot that was sought
+abbrev pub unless_refused : Optional Slot → Optional Slot → Result (Optional Slot) Refusal
+unless_refused None later = Ok later
+unless_refused (Some s) later = Err (Image s.0)
 
 -- what a pass keeps of repeats, as a refusal or the slot that was sought
-abbrev pub repeat_of : Repeats → Repeat
-repeat_of r = cond r.refused (Refused (Image r.first.0)) (Found (cond r.found (At r.later) Nowhere))
+abbrev pub repeat_of : Repeats → Result (Optional Slot) Refusal
+repeat_of r = unless_refused r.refused r.later
 
 -- the slot that repeats a prefix, where slot i does and none before it
 abbrev pub since_at : Option ℕ → Bool → ℕ → Option ℕ
@@ -214,14 +187,14 @@ abbrev pub fails_at : (ℕ → Cell) → Option ℕ → ℕ → Bool
 fails_at at o i = contradicts (at i) (before at i) || (is_some o && repeats_at at i)
 
 -- what slot i comes to, where the slots before it repeat a prefix at the slot o: refusal 7, or the slot of the later copy up to slot i
-abbrev pub RepeatAt : (ℕ → Cell) → Option ℕ → ℕ → Repeat → Type 0
+abbrev pub RepeatAt : (ℕ → Cell) → Option ℕ → ℕ → Result (Optional Slot) Refusal → Type 0
 RepeatAt at o i r = IsRepeat r (fault_if (fails_at at o i) image_refusal i) (since_at o (repeats_at at i) i)
 
 -- and where one of them may be refused already
-abbrev pub RepeatWith : (ℕ → Cell) → Repeat → ℕ → Repeat → Type 0
-RepeatWith at (Refused f) i r = r ≡ Refused f
-RepeatWith at (Found p) i r = RepeatAt at (place_of p) i r
+abbrev pub RepeatWith : (ℕ → Cell) → Result (Optional Slot) Refusal → ℕ → Result (Optional Slot) Refusal → Type 0
+RepeatWith at (Err f) i r = r ≡ Err f
+RepeatWith at (Ok p) i r = RepeatAt at (place_of p) i r
 
 -- what a mend finds of all slots: refusal 7, of S1 to S4 first, or the slot of the later copy
-abbrev pub MendFound : ℕ → List Cell → Repeat → Type 0
+abbrev pub MendFound : ℕ → List Cell → Result (Optional Slot) Refusal → Type 0
 MendFound W cs r = IsRepeat r (order_fault W 0 [] cs then repeat_fault 0 false [] cs) (repeat_slot 0 [] cs)

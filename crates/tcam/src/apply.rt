@@ -9,9 +9,8 @@ ghost use Rattle.tcam.specs.Applies.{is_wrong, writes_in, write_fault, stored, I
 ghost use Rattle.tcam.specs.Shown.{write_of};
 ghost use Rattle.tcam.specs.Loops.{write_at};
 
-use crate::Applied;
 use crate::slots::{Cell, size_check};
-use route::{Check, Counted, Refusal, Slot};
+use route::{Refusal, Slot};
 
 // One write: what a slot is to hold.
 #[derive(Clone, Copy)]
@@ -25,9 +24,7 @@ impl Write {
     fn is_wrong(self, m: usize) -> bool
         ensures { result ≡ is_wrong 32 m (write_of self) }
     {
-        let slot = self.slot;
-        let cell = self.cell;
-        (m <= slot.0) | !cell.is_valid()
+        (Slot(m) <= self.slot) | !self.cell.is_valid()
     }
 }
 
@@ -48,18 +45,16 @@ fn write_at(plan: &[u32], i: usize) -> Write
 }
 
 // Refusal 10 of the first k writes in a table of m slots.
-fn writes_check(m: usize, plan: &[u32], k: usize) -> Check
+fn writes_check(m: usize, plan: &[u32], k: usize) -> Result<(), Refusal>
     requires { k ≤ length plan.now / 3 }
     ensures { verdict_of result ≡ write_fault 32 m 0 (take k (writes_in plan.now)) }
 {
-    let mut i = 0;
-    while i < k {
+    for i in 0..k {
         if write_at(plan, i).is_wrong(m) {
-            return Check::Fault(Refusal::Plan(i));
+            return Err(Refusal::Plan(i));
         }
-        i += 1;
     }
-    Check::Fine
+    Ok(())
 }
 
 // The first k writes, made in order.
@@ -69,35 +64,29 @@ fn make_writes(addresses: &mut [u32], tags: &mut [u32], plan: &[u32], k: usize)
     ensures addresses_after { addresses.new ≡ stored (λ c. c.address) addresses.old (take k (writes_in plan.now)) }
     ensures tags_after { tags.new ≡ stored (λ c. c.tag) tags.old (take k (writes_in plan.now)) }
 {
-    let mut i = 0;
-    while i < k {
-        let w = write_at(plan, i);
-        let slot = w.slot;
-        let cell = w.cell;
-        let at = slot.0;
-        addresses[at] = cell.address;
-        tags[at] = cell.tag;
-        i += 1;
+    for i in 0..k {
+        let Write { slot, cell } = write_at(plan, i);
+        addresses[slot.0] = cell.address;
+        tags[slot.0] = cell.tag;
     }
 }
 
 // Applies the first k writes of a plan: k, or refusal 8 or 10 with both rows as they were.
-pub fn apply(addresses: &mut [u32], tags: &mut [u32], plan: &[u32], k: usize) -> Applied
+pub fn apply(
+    addresses: &mut [u32],
+    tags: &mut [u32],
+    plan: &[u32],
+    k: usize,
+) -> Result<usize, Refusal>
     ensures { IsApplied 32 addresses.old tags.old plan.now k (counted result) addresses.new tags.new }
 {
     let m = addresses.len();
-    let size = size_check(m, tags.len());
-    if let Check::Fault(f) = size {
-        return Counted::Refused(f);
-    }
+    size_check(m, tags.len())?;
     let whole = plan.len() / 3;
     if whole < k {
-        return Counted::Refused(Refusal::Plan(whole));
+        return Err(Refusal::Plan(whole));
     }
-    let writes = writes_check(m, plan, k);
-    if let Check::Fault(f) = writes {
-        return Counted::Refused(f);
-    }
+    writes_check(m, plan, k)?;
     make_writes(addresses, tags, plan, k);
-    Counted::Count(k)
+    Ok(k)
 }

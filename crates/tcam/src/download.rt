@@ -8,54 +8,38 @@
 // wrapping difference, so that one comparison tells both whether an entry is still to come and
 // whether it is nearer than the one kept.
 ghost use Rattle.std.specs.Prelude.{◌≡◌, ◌≤◌, length};
-ghost use Rattle.route.specs.Refusals.{fine, fault, ◌then◌};
-ghost use Rattle.route.specs.Shown.{number, place, verdict_of};
-ghost use Rattle.tcam.specs.Slots.{cells, slot_fault};
-ghost use Rattle.tcam.specs.Download.{end, next_unless, from_fault, download};
+ghost use Rattle.route.specs.Refusals.{fine};
+ghost use Rattle.route.specs.Shown.{verdict_of};
+ghost use Rattle.tcam.specs.Slots.{cells};
+ghost use Rattle.tcam.specs.Download.{from_fault, download};
 ghost use Rattle.tcam.specs.Shown.{from_of, next_of};
 ghost use Rattle.tcam.specs.Loops.{far_ahead, IsLeast, IsAheadOf, NextByKeys};
 
 use crate::lookup::rest_check;
-use crate::slots::{Cell, cell_at, size_check};
+use crate::slots::Cell;
+use crate::table::Table;
 use route::order::key_of;
 use route::rule::prefix_check;
-use route::{Check, Length, Refusal, Slot};
+use route::{Length, Refusal, Slot};
 
-// What a call asks from: the start, or past the prefix given last.
-#[derive(Clone, Copy)]
-pub enum From {
-    Start,
-    Past(u32, Length),
-}
-
-// What a call answers.
-#[derive(Clone, Copy)]
-pub enum Next {
-    Entry(Cell),
-    End,
-    Refused(Refusal),
-}
-
-impl From {
-    // Refusals 1 and 2 of the prefix asked from.
-    fn check(self) -> Check
-        ensures { verdict_of result ≡ from_fault 32 (from_of self) }
-    {
-        match self {
-            From::Start => Check::Fine,
-            From::Past(address, n) => prefix_check(0, address, n),
-        }
+// Refusals 1 and 2 of the prefix asked from; the start has none.
+fn past_check(past: Option<(u32, Length)>) -> Result<(), Refusal>
+    ensures { verdict_of result ≡ from_fault 32 (from_of past) }
+{
+    match past {
+        None => Ok(()),
+        Some((address, n)) => prefix_check(0, address, n),
     }
+}
 
-    // The least key of a prefix that is still to come.
-    fn least(self) -> u64
-        requires { from_fault 32 (from_of self) ≡ fine }
-        ensures { IsLeast (from_of self) result }
-    {
-        match self {
-            From::Start => 0,
-            From::Past(address, n) => key_of(address, n) + 1,
-        }
+// The least key of a prefix that is still to come.
+fn least_key(past: Option<(u32, Length)>) -> u64
+    requires { from_fault 32 (from_of past) ≡ fine }
+    ensures { IsLeast (from_of past) result }
+{
+    match past {
+        None => 0,
+        Some((address, n)) => key_of(address, n) + 1,
     }
 }
 
@@ -67,62 +51,48 @@ fn ahead_of(least: u64, key: u64) -> u64
     requires { least ≤ far_ahead }
     ensures { IsAheadOf least key result }
 {
-    std::num::wrapping_sub_u64(key, least)
+    key.wrapping_sub(least)
 }
 
 // S1 of each slot, and of the entries whose keys are not below `least` the nearest, whose slot is
 // kept.
-fn next_in(addresses: &[u32], tags: &[u32], least: u64) -> Next
-    requires { (length addresses.now ≡ length tags.now) × (least ≤ far_ahead) }
-    ensures { NextByKeys 32 (cells addresses.now tags.now) least (next_of result) }
+fn next_in(table: &Table, least: u64) -> Result<Option<Cell>, Refusal>
+    requires { least ≤ far_ahead }
+    ensures { NextByKeys 32 (cells table.now.addresses.now table.now.tags.now) least (next_of result) }
 {
     let mut nearest = FAR_AHEAD;
-    let mut at = 0;
-    let mut i = 0;
-    while i < addresses.len() {
-        let c = cell_at(addresses, tags, Slot(i));
+    let mut next = None;
+    for i in 0..table.len() {
+        let c = table.cell(Slot(i));
         if !c.is_valid() {
-            return Next::Refused(Refusal::Image(i));
+            return Err(Refusal::Image(i));
         }
-        let here = i;
-        i += 1;
         if c.is_free() {
             continue;
         }
         let ahead = ahead_of(least, key_of(c.address, c.length()));
         if ahead < nearest {
             nearest = ahead;
-            at = here;
+            next = Some(c);
         }
     }
-    if nearest == FAR_AHEAD {
-        return Next::End;
-    }
-    Next::Entry(cell_at(addresses, tags, Slot(at)))
+    Ok(next)
 }
 
-// The refusal of a call whose prefix has the fault f: refusal 7 of the image comes first.
-fn refusal(addresses: &[u32], tags: &[u32], f: Refusal) -> Next
-    requires { length addresses.now ≡ length tags.now }
-    ensures { next_of result ≡ next_unless (slot_fault 32 0 (cells addresses.now tags.now) then fault (number f) (place f)) end }
+// The next entry past a prefix, or the first where there is none to be past: refusal 8, 7, 1 or 2, else
+// the entry, or none at the end.
+pub fn next_entry(
+    addresses: &[u32],
+    tags: &[u32],
+    past: Option<(u32, Length)>,
+) -> Result<Option<Cell>, Refusal>
+    ensures { next_of result ≡ download 32 addresses.now tags.now (from_of past) }
 {
-    match rest_check(addresses, tags, Slot(0)) {
-        Check::Fault(g) => Next::Refused(g),
-        Check::Fine => Next::Refused(f),
+    let table = Table::new(addresses, tags)?;
+    if let Err(f) = past_check(past) {
+        // refusal 7 of the image comes first
+        rest_check(&table, Slot(0))?;
+        return Err(f);
     }
-}
-
-// The next entry past what was asked from: refusal 8, 7, 1 or 2, else the entry, or the end.
-pub fn next_entry(addresses: &[u32], tags: &[u32], from: From) -> Next
-    ensures { next_of result ≡ download 32 addresses.now tags.now (from_of from) }
-{
-    let size = size_check(addresses.len(), tags.len());
-    if let Check::Fault(f) = size {
-        return Next::Refused(f);
-    }
-    let asked = from.check();
-    if let Check::Fault(f) = asked {
-        return refusal(addresses, tags, f);
-    }
-    next_in(addresses, tags, from.least())
+    next_in(&table, least_key(past))
 }

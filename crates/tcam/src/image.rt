@@ -11,12 +11,14 @@ ghost use Rattle.route.specs.Lists.{any};
 ghost use Rattle.route.specs.Loops.{before, places_from};
 ghost use Rattle.route.specs.Shown.{verdict_of, counted};
 ghost use Rattle.tcam.specs.Slots.{max_slots, cells, breaks, image_fault, table_fault, used_in, slot_check};
-ghost use Rattle.tcam.specs.Shown.{cell_of};
-ghost use Rattle.tcam.specs.Loops.{cell_at, address_at, is_address, is_used, misplaced_by, SeenNone, SeenWith, SeenPast, TestedBefore, PlacedAt, repeats_at, FreeBetween, FreeEnd};
+ghost use Rattle.tcam.specs.Shown.{cell_of, cell_at};
+ghost use Rattle.tcam.specs.Loops.{address_at, is_address, is_used, misplaced_by, SeenNone, SeenWith, SeenPast, TestedBefore, PlacedAt, repeats_at, FreeBetween, FreeEnd};
 
 use crate::MAX_SLOTS;
-use crate::slots::{Cell, cell_at, size_check};
-use route::{Check, Counted, Length, Refusal, Slot, filter, lesser};
+use crate::slots::Cell;
+use crate::table::Table;
+use route::filter::Filter;
+use route::{Length, Refusal, Slot};
 
 // How many slots are compared before it is asked whether one was found.
 const BLOCK: usize = 64;
@@ -50,11 +52,7 @@ impl Seen {
     fn run_with(self, n: Length, i: Slot) -> Slot
         ensures { result.0 ≡ (if nat_eq n.0 self.nearest.0 then self.run.0 else i.0) }
     {
-        let nearest = self.nearest;
-        if n.0 == nearest.0 {
-            return self.run;
-        }
-        i
+        if n == self.nearest { self.run } else { i }
     }
 
     // With an entry more, in slot i.
@@ -74,12 +72,10 @@ impl Seen {
     fn past(self, to: Slot) -> Seen
         ensures { SeenPast to.0 self result }
     {
-        let nearest = self.nearest;
         Seen {
-            nearest,
             free: true,
-            lower: self.lower,
             run: to,
+            ..self
         }
     }
 
@@ -90,42 +86,33 @@ impl Seen {
         if c.is_free() {
             return self.lower;
         }
-        let n = c.length();
-        let nearest = self.nearest;
-        !c.is_valid() | (nearest.0 < n.0) | (c.is_upper() & self.free)
+        !c.is_valid() | (self.nearest < c.length()) | (c.is_upper() & self.free)
     }
 }
 
 // Whether a slot from slot `from` up to slot `to` holds the address. The loop has no exit, so that
 // several slots are compared at once.
-fn stands_among(addresses: &[u32], from: Slot, to: Slot, address: u32) -> bool
-    requires { (from.0 ≤ to.0) × (to.0 ≤ length addresses.now) }
-    ensures { result ≡ any (is_address address) (places_from (address_at addresses.now) from.0 (to.0 - from.0)) }
+fn stands_among(addresses: &[u32], from: usize, to: usize, address: u32) -> bool
+    requires { (from ≤ to) × (to ≤ length addresses.now) }
+    ensures { result ≡ any (is_address address) (places_from (address_at addresses.now) from (to - from)) }
 {
-    let end = to.0;
     let mut found = false;
-    let mut j = from.0;
-    while j < end {
+    for j in from..to {
         found = (addresses[j] == address) | found;
-        j += 1;
     }
     found
 }
 
 // Whether a slot from slot `from` up to slot `to` holds the address, asked block by block up to the
 // first block that has it.
-fn stands_between(addresses: &[u32], from: Slot, to: Slot, address: u32) -> bool
-    requires { (from.0 ≤ to.0) × (to.0 ≤ length addresses.now) }
-    ensures { result ≡ any (is_address address) (places_from (address_at addresses.now) from.0 (to.0 - from.0)) }
+fn stands_between(addresses: &[u32], from: usize, to: usize, address: u32) -> bool
+    requires { (from ≤ to) × (to ≤ length addresses.now) }
+    ensures { result ≡ any (is_address address) (places_from (address_at addresses.now) from (to - from)) }
 {
-    let end = to.0;
-    let mut j = from.0;
-    while j < end {
-        let next = lesser(j + BLOCK, end);
-        if stands_among(addresses, Slot(j), Slot(next), address) {
+    for j in (from..to).step_by(BLOCK) {
+        if stands_among(addresses, j, to.min(j + BLOCK), address) {
             return true;
         }
-        j = next;
     }
     false
 }
@@ -133,91 +120,71 @@ fn stands_between(addresses: &[u32], from: Slot, to: Slot, address: u32) -> bool
 // Whether slot i, which holds c and keeps S1 to S4, repeats an earlier prefix. Where its prefix was not
 // noted, no slot before it holds that; where it has another length than the nearest entry, its run is
 // empty.
-pub(crate) fn repeats_earlier(
-    addresses: &[u32],
-    tags: &[u32],
-    seen: Seen,
-    noted: bool,
-    c: Cell,
-    i: Slot,
-) -> bool
-    requires addresses_len { (length addresses.now ≡ length tags.now) × (i.0 < length addresses.now) × (cell_of c ≡ cell_at addresses.now tags.now i.0) }
-    requires tested_before { TestedBefore 32 (cell_at addresses.now tags.now) seen i.0 × PlacedAt 32 (cell_at addresses.now tags.now) i.0 }
-    requires i_value { noted ≡ false → repeats_at (cell_at addresses.now tags.now) i.0 ≡ false }
-    ensures { result ≡ repeats_at (cell_at addresses.now tags.now) i.0 }
+pub(crate) fn repeats_earlier(table: &Table, seen: Seen, noted: bool, c: Cell, i: Slot) -> bool
+    requires i_in_bounds { (i.0 < length table.now.addresses.now) × (cell_of c ≡ cell_at table.now.addresses.now table.now.tags.now i.0) }
+    requires tested_before { TestedBefore 32 (cell_at table.now.addresses.now table.now.tags.now) seen i.0 × PlacedAt 32 (cell_at table.now.addresses.now table.now.tags.now) i.0 }
+    requires i_value { noted ≡ false → repeats_at (cell_at table.now.addresses.now table.now.tags.now) i.0 ≡ false }
+    ensures { result ≡ repeats_at (cell_at table.now.addresses.now table.now.tags.now) i.0 }
 {
-    if c.is_free() {
+    if c.is_free() | !noted {
         return false;
     }
-    if !noted {
+    if c.length() != seen.nearest {
         return false;
     }
-    let n = c.length();
-    let nearest = seen.nearest;
-    if n.0 != nearest.0 {
-        return false;
-    }
-    stands_between(addresses, seen.run, i, c.address)
+    stands_between(table.addresses, seen.run.0, i.0, c.address)
 }
 
 // Whether slot i, which holds c, breaks one of S1 to S5.
-fn breaks_rule(addresses: &[u32], tags: &[u32], seen: Seen, noted: bool, c: Cell, i: Slot) -> bool
-    requires addresses_len { (length addresses.now ≡ length tags.now) × (i.0 < length addresses.now) × (cell_of c ≡ cell_at addresses.now tags.now i.0) }
-    requires tested_before { TestedBefore 32 (cell_at addresses.now tags.now) seen i.0 }
-    requires i_value { noted ≡ false → repeats_at (cell_at addresses.now tags.now) i.0 ≡ false }
-    ensures { result ≡ breaks 32 (cell_at addresses.now tags.now i.0) (before (cell_at addresses.now tags.now) i.0) }
+fn breaks_rule(table: &Table, seen: Seen, noted: bool, c: Cell, i: Slot) -> bool
+    requires i_in_bounds { (i.0 < length table.now.addresses.now) × (cell_of c ≡ cell_at table.now.addresses.now table.now.tags.now i.0) }
+    requires tested_before { TestedBefore 32 (cell_at table.now.addresses.now table.now.tags.now) seen i.0 }
+    requires i_value { noted ≡ false → repeats_at (cell_at table.now.addresses.now table.now.tags.now) i.0 ≡ false }
+    ensures { result ≡ breaks 32 (cell_at table.now.addresses.now table.now.tags.now i.0) (before (cell_at table.now.addresses.now table.now.tags.now) i.0) }
 {
     if seen.refuses(c) {
         return true;
     }
-    repeats_earlier(addresses, tags, seen, noted, c, i)
+    repeats_earlier(table, seen, noted, c, i)
 }
 
 // Whether a slot from slot `from` up to slot `to` is used, as `stands_among` does it.
-fn used_among(addresses: &[u32], tags: &[u32], from: Slot, to: Slot) -> bool
-    requires { (length addresses.now ≡ length tags.now) × (from.0 ≤ to.0) × (to.0 ≤ length addresses.now) }
-    ensures { result ≡ any is_used (places_from (cell_at addresses.now tags.now) from.0 (to.0 - from.0)) }
+fn used_among(table: &Table, from: usize, to: usize) -> bool
+    requires { (from ≤ to) × (to ≤ length table.now.addresses.now) }
+    ensures { result ≡ any is_used (places_from (cell_at table.now.addresses.now table.now.tags.now) from (to - from)) }
 {
-    let end = to.0;
     let mut found = false;
-    let mut j = from.0;
-    while j < end {
-        found = !cell_at(addresses, tags, Slot(j)).is_free() | found;
-        j += 1;
+    for j in from..to {
+        found = !table.cell(Slot(j)).is_free() | found;
     }
     found
 }
 
 // The first used slot from slot `from` on, or the number of slots, slot by slot.
-fn first_used(addresses: &[u32], tags: &[u32], from: Slot) -> Slot
-    requires { (length addresses.now ≡ length tags.now) × (from.0 ≤ length addresses.now) }
-    ensures { FreeEnd addresses.now tags.now from.0 result.0 }
+fn first_used(table: &Table, from: usize) -> Slot
+    requires { from ≤ length table.now.addresses.now }
+    ensures { FreeEnd table.now.addresses.now table.now.tags.now from result.0 }
 {
-    let mut j = from.0;
-    while j < addresses.len() {
-        if !cell_at(addresses, tags, Slot(j)).is_free() {
+    for j in from..table.len() {
+        if !table.cell(Slot(j)).is_free() {
             return Slot(j);
         }
-        j += 1;
     }
-    Slot(j)
+    Slot(table.len())
 }
 
 // The same, block by block, and slot by slot in the first block that has a used slot.
-fn free_end(addresses: &[u32], tags: &[u32], from: Slot) -> Slot
-    requires { (length addresses.now ≡ length tags.now) × (from.0 ≤ length addresses.now) }
-    ensures { FreeEnd addresses.now tags.now from.0 result.0 }
+fn free_end(table: &Table, from: usize) -> Slot
+    requires { from ≤ length table.now.addresses.now }
+    ensures { FreeEnd table.now.addresses.now table.now.tags.now from result.0 }
 {
-    let end = addresses.len();
-    let mut j = from.0;
-    while j < end {
-        let to = lesser(j + BLOCK, end);
-        if used_among(addresses, tags, Slot(j), Slot(to)) {
-            return first_used(addresses, tags, Slot(j));
+    let end = table.len();
+    for j in (from..end).step_by(BLOCK) {
+        if used_among(table, j, end.min(j + BLOCK)) {
+            return first_used(table, j);
         }
-        j = to;
     }
-    Slot(j)
+    Slot(end)
 }
 
 // What was seen of the slots before a slot, and that slot.
@@ -228,14 +195,13 @@ pub struct Passed {
 }
 
 // Past slot i, which holds c and keeps S1 to S4: an entry, or a free slot with those that follow it.
-pub(crate) fn pass(addresses: &[u32], tags: &[u32], seen: Seen, c: Cell, i: Slot) -> Passed
-    requires addresses_len { (length addresses.now ≡ length tags.now) × (i.0 < length addresses.now) × (cell_of c ≡ cell_at addresses.now tags.now i.0) }
-    requires tested_before { TestedBefore 32 (cell_at addresses.now tags.now) seen i.0 × PlacedAt 32 (cell_at addresses.now tags.now) i.0 }
-    ensures { TestedBefore 32 (cell_at addresses.now tags.now) result.seen result.next.0 × FreeBetween addresses.now tags.now (i.0 + 1) result.next.0 }
+pub(crate) fn pass(table: &Table, seen: Seen, c: Cell, i: Slot) -> Passed
+    requires i_in_bounds { (i.0 < length table.now.addresses.now) × (cell_of c ≡ cell_at table.now.addresses.now table.now.tags.now i.0) }
+    requires tested_before { TestedBefore 32 (cell_at table.now.addresses.now table.now.tags.now) seen i.0 × PlacedAt 32 (cell_at table.now.addresses.now table.now.tags.now) i.0 }
+    ensures { TestedBefore 32 (cell_at table.now.addresses.now table.now.tags.now) result.seen result.next.0 × FreeBetween table.now.addresses.now table.now.tags.now (i.0 + 1) result.next.0 }
 {
-    let after = Slot(i.0 + 1);
     if c.is_free() {
-        let next = free_end(addresses, tags, after);
+        let next = free_end(table, i.0 + 1);
         return Passed {
             seen: seen.past(next),
             next,
@@ -243,61 +209,55 @@ pub(crate) fn pass(addresses: &[u32], tags: &[u32], seen: Seen, c: Cell, i: Slot
     }
     Passed {
         seen: seen.with(c, i),
-        next: after,
+        next: Slot(i.0 + 1),
     }
 }
 
-// Refusal 7 of an update.
-fn image_check(addresses: &[u32], tags: &[u32], filter: &mut [u64]) -> Check
-    requires { (length addresses.now ≡ length tags.now) × (0 < length filter.old) }
-    ensures { verdict_of result ≡ image_fault 32 0 [] (cells addresses.now tags.now) }
+// Refusal 7 of an update, with a filter of so many words. It is cleared at every call.
+fn check_with<const WORDS: usize>(table: &Table) -> Result<(), Refusal>
+    requires { (0 < WORDS) × (WORDS ≤ 4096) }
+    ensures { verdict_of result ≡ image_fault 32 0 [] (cells table.now.addresses.now table.now.tags.now) }
 {
+    let mut filter = Filter::<WORDS>::of(0);
     let mut seen = Seen::none();
     let mut i = 0;
-    while i < addresses.len() {
-        let c = cell_at(addresses, tags, Slot(i));
-        let noted = filter::note(filter, c.address, c.length());
-        if breaks_rule(addresses, tags, seen, noted, c, Slot(i)) {
-            return Check::Fault(Refusal::Image(i));
+    while i < table.len() {
+        let c = table.cell(Slot(i));
+        let noted = filter.note(c.address, c.length());
+        if breaks_rule(table, seen, noted, c, Slot(i)) {
+            return Err(Refusal::Image(i));
         }
-        let passed = pass(addresses, tags, seen, c, Slot(i));
+        let passed = pass(table, seen, c, Slot(i));
         seen = passed.seen;
-        let next = passed.next;
-        i = next.0;
+        i = passed.next.0;
     }
-    Check::Fine
+    Ok(())
 }
 
-// The same with a filter of the call's own. It is cleared at every call, so there are three sizes of it.
-fn slots_check(addresses: &[u32], tags: &[u32]) -> Check
-    requires { length addresses.now ≡ length tags.now }
-    ensures { verdict_of result ≡ image_fault 32 0 [] (cells addresses.now tags.now) }
+// The same with a filter whose size goes with the table's.
+fn slots_check(table: &Table) -> Result<(), Refusal>
+    ensures { verdict_of result ≡ image_fault 32 0 [] (cells table.now.addresses.now table.now.tags.now) }
 {
-    let n = addresses.len();
-    if n <= 64 {
-        let mut filter = [0u64; 16];
-        return image_check(addresses, tags, &mut filter);
+    match table.len() {
+        0..=64 => check_with::<16>(table),
+        65..=1024 => check_with::<512>(table),
+        _ => check_with::<4096>(table),
     }
-    if n <= 1024 {
-        let mut filter = [0u64; 512];
-        return image_check(addresses, tags, &mut filter);
-    }
-    let mut filter = [0u64; 4096];
-    image_check(addresses, tags, &mut filter)
 }
 
 // How many slots from slot `from` up to slot `to` are used. With a count of 32 bits several slots are
 // counted at once.
-fn used_between(addresses: &[u32], tags: &[u32], from: Slot, to: Slot) -> u32
-    requires { (to.0 ≤ length addresses.now) × (to.0 ≤ length tags.now) × (from.0 ≤ to.0) × (to.0 ≤ from.0 + max_slots) }
-    ensures { (result ≡ used_in (places_from (cell_at addresses.now tags.now) from.0 (to.0 - from.0))) × (result ≤ to.0 - from.0) }
+fn used_between(addresses: &[u32], tags: &[u32], from: usize, to: usize) -> u32
+    requires { (to ≤ length addresses.now) × (to ≤ length tags.now) × (from ≤ to) × (to ≤ from + max_slots) }
+    ensures { (result ≡ used_in (places_from (cell_at addresses.now tags.now) from (to - from))) × (result ≤ to - from) }
 {
-    let end = to.0;
     let mut used: u32 = 0;
-    let mut j = from.0;
-    while j < end {
-        used += cell_at(addresses, tags, Slot(j)).uses();
-        j += 1;
+    for j in from..to {
+        let c = Cell {
+            address: addresses[j],
+            tag: tags[j],
+        };
+        used += c.uses();
     }
     used
 }
@@ -307,35 +267,25 @@ fn used_between(addresses: &[u32], tags: &[u32], from: Slot, to: Slot) -> u32
 pub fn used_slots(addresses: &[u32], tags: &[u32]) -> usize
     ensures { result ≡ used_in (cells addresses.now tags.now) }
 {
-    let end = lesser(addresses.len(), tags.len());
+    let end = addresses.len().min(tags.len());
     let mut used = 0;
-    let mut i = 0;
-    while i < end {
-        let to = lesser(i + MAX_SLOTS, end);
-        let more = used_between(addresses, tags, Slot(i), Slot(to));
-        used += more as usize;
-        i = to;
+    for i in (0..end).step_by(MAX_SLOTS) {
+        used += used_between(addresses, tags, i, end.min(i + MAX_SLOTS)) as usize;
     }
     used
 }
 
 // Refusal 8, then 7: what an update tests of a table.
-pub fn table_check(addresses: &[u32], tags: &[u32]) -> Check
+pub fn table_check(addresses: &[u32], tags: &[u32]) -> Result<(), Refusal>
     ensures { verdict_of result ≡ table_fault 32 addresses.now tags.now }
 {
-    let size = size_check(addresses.len(), tags.len());
-    if let Check::Fault(f) = size {
-        return Check::Fault(f);
-    }
-    slots_check(addresses, tags)
+    slots_check(&Table::new(addresses, tags)?)
 }
 
 // Tests a table as an update does: the number of used slots, or refusal 8 or 7.
-pub fn check(addresses: &[u32], tags: &[u32]) -> Counted
+pub fn check(addresses: &[u32], tags: &[u32]) -> Result<usize, Refusal>
     ensures { counted result ≡ slot_check 32 addresses.now tags.now }
 {
-    match table_check(addresses, tags) {
-        Check::Fault(f) => Counted::Refused(f),
-        Check::Fine => Counted::Count(used_slots(addresses, tags)),
-    }
+    table_check(addresses, tags)?;
+    Ok(used_slots(addresses, tags))
 }

@@ -1,15 +1,14 @@
 // One slot, and the two rows in which slots are lent.
 ghost use Rattle.std.specs.Prelude.{◌≡◌, ◌<◌, ◌≤◌, length, if◌then◌else◌};
-ghost use Rattle.route.specs.Shown.{verdict_of};
+ghost use Rattle.route.specs.Shown.{route_of, verdict_of};
 ghost use Rattle.tcam.specs.Slots.{is_free, length_in, hop_in, keeps_s1, is_upper, is_lower, hits, slots_fault};
 ghost use Rattle.tcam.specs.Plans.{of_prefix};
 ghost use Rattle.tcam.specs.Mend.{other_tag_in};
-ghost use Rattle.tcam.specs.Shown.{cell_of};
-ghost use Rattle.tcam.specs.Loops.{cell_at, group_of};
+ghost use Rattle.tcam.specs.Shown.{cell_of, prefix_in, group_of};
 
 use crate::MAX_SLOTS;
 use route::rule::{covers, span_of};
-use route::{Check, Hop, Length, Prefix, Refusal, Slot};
+use route::{Hop, Length, Prefix, Refusal};
 
 // The slots of one group: the entries of one length, or the pool's free slots. A row of edge slots
 // has a number for each group, the lengths 0 to 32 and then the pool.
@@ -63,52 +62,57 @@ impl Cell {
         Hop(self.tag % 65536)
     }
 
+    // The prefix with its hop.
+    pub fn prefix(self) -> Prefix
+        ensures { route_of result ≡ prefix_in (cell_of self) }
+    {
+        Prefix {
+            address: self.address,
+            length: self.length(),
+            hop: self.hop(),
+        }
+    }
+
     // S1: the slot is free or holds a valid prefix and hop.
     pub fn is_valid(self) -> bool
         ensures { result ≡ keeps_s1 32 (cell_of self) }
     {
-        let h = self.hop();
-        if h.0 == 0 {
+        let n = self.length();
+        if self.hop() == Hop(0) {
             return self.is_free();
         }
-        let n = self.length();
-        if 32 < n.0 {
-            return false;
-        }
-        (self.address as u64) % span_of(n) == 0
+        (n <= Length(32)) && (self.address as u64) % span_of(n) == 0
     }
 
     // An entry above the pool: a length of 16 or more.
     pub fn is_upper(self) -> bool
         ensures { result ≡ is_upper 32 (cell_of self) }
     {
-        let n = self.length();
-        !self.is_free() & (16 <= n.0)
+        !self.is_free() & (Length(16) <= self.length())
     }
 
     // An entry below the pool.
     pub fn is_lower(self) -> bool
         ensures { result ≡ is_lower 32 (cell_of self) }
     {
-        let n = self.length();
-        !self.is_free() & (n.0 < 16)
+        !self.is_free() & (self.length() < Length(16))
     }
 
     // Whether the slot holds the prefix of this address and length.
     pub fn has_prefix(self, address: u32, n: Length) -> bool
         ensures { result ≡ of_prefix address n.0 (cell_of self) }
     {
-        let m = self.length();
-        !self.is_free() & (m.0 == n.0) & (self.address == address)
+        !self.is_free() & (self.length() == n) & (self.address == address)
     }
 
     // Whether the slot holds the prefix of c with another tag.
     pub fn has_other_tag(self, c: Cell) -> bool
         ensures { result ≡ other_tag_in (cell_of c) (cell_of self) }
     {
-        let m = self.length();
-        let n = c.length();
-        !self.is_free() & (self.address == c.address) & (m.0 == n.0) & (self.tag != c.tag)
+        !self.is_free()
+            & (self.address == c.address)
+            & (self.length() == c.length())
+            & (self.tag != c.tag)
     }
 
     pub fn group(self) -> Group
@@ -124,33 +128,16 @@ impl Cell {
     pub fn hits(self, q: u32) -> bool
         ensures { result ≡ hits 32 q (cell_of self) }
     {
-        let p = Prefix {
-            address: self.address,
-            length: self.length(),
-            hop: self.hop(),
-        };
-        !self.is_free() & covers(p, q)
-    }
-}
-
-// What slot i holds.
-pub(crate) fn cell_at(addresses: &[u32], tags: &[u32], i: Slot) -> Cell
-    requires { (i.0 < length addresses.now) × (i.0 < length tags.now) }
-    ensures { cell_of result ≡ cell_at addresses.now tags.now i.0 }
-{
-    let at = i.0;
-    Cell {
-        address: addresses[at],
-        tag: tags[at],
+        !self.is_free() & covers(self.prefix(), q)
     }
 }
 
 // Refusal 8 of two rows, by their lengths: unequal, none, or too many.
-pub fn size_check(m: usize, n: usize) -> Check
+pub fn size_check(m: usize, n: usize) -> Result<(), Refusal>
     ensures { verdict_of result ≡ slots_fault m n }
 {
     if !((m == n) & (1 <= m) & (m <= MAX_SLOTS)) {
-        return Check::Fault(Refusal::Size);
+        return Err(Refusal::Size);
     }
-    Check::Fine
+    Ok(())
 }
