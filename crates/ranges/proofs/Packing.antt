@@ -108,16 +108,10 @@ keys_make rs ok placed =
         let v = ok.valid r m in
         record { address = placed r m; length = omega (arith, v.short); hop = omega (arith, v.small) }
 
--- the keys of a list that has been tested, packed and sorted: as many as its entries, and what the sweep makes of them
-module _ (ad ns hs : List ℕ) (ok : rows_fault 32 ad ns hs ≡ fine) {packed : List ℕ} (is : packed ≡ keys_of (routes ad ns hs)) where
-  pub packed-length : length packed ≡ length ad
-  packed-length = rw is (keys_length ad ns hs ((rows_of_set 32 ad ns hs).0 ok).equal)
-
-  module _ {keys : List ℕ} (rises : keys ≡ sorted packed) where
-    pub keys-many : length keys ≡ length ad
-    keys-many = rw rises (sorted-length packed ∙ packed-length)
-
-    pub list-made : ((i : ℕ) → get_or ad i 0 < 4294967296) → {t : List Range} → t ≡ swept_ranges 32 (routes_in keys) → t ≡ table_of 32 ad ns hs
-    list-made small e =
-        let placed = routes-addresses (λ a. a < 4294967296) ad ns hs (each_at (λ a. a < 4294967296) ad small) in
-        (rw (rises, is) at e) ∙ keys_make (routes ad ns hs) (accepted_set 32 ad ns hs ok) placed
+-- the keys of a list that has been tested, packed and sorted: what the sweep makes of them
+pub list-made : (ad ns hs : List ℕ) → rows_fault 32 ad ns hs ≡ fine → ((i : ℕ) → get_or ad i 0 < 4294967296) →
+    {packed keys : List ℕ} → packed ≡ keys_of (routes ad ns hs) → keys ≡ sorted packed →
+    {t : List Range} → t ≡ swept_ranges 32 (routes_in keys) → t ≡ table_of 32 ad ns hs
+list-made ad ns hs ok small is rises e =
+    let placed = routes-addresses (λ a. a < 4294967296) ad ns hs (each_at (λ a. a < 4294967296) ad small) in
+    (rw (rises, is) at e) ∙ keys_make (routes ad ns hs) (accepted_set 32 ad ns hs ok) placed

@@ -16,10 +16,10 @@ pub loop-i-preserved : goal.loop-i-preserved
 loop-i-preserved c =
     let n = c.args.made in
     let ws = c.args.words.now in
-    let more = c.loop-i-test.true in
+    let more = omega arith in
     let is = c.range_of-r.ensures in (
       fill-turn c.loop-i.invariant.0 (omega (arith, parts-length start n ws c.requires.0)) (ap start is ∙ sym (part_at start refl n ws c.loop-i.i more)),
-      fill-turn c.loop-i.invariant.1 (omega (arith, parts-length hop n ws c.requires.0)) (ap hop is ∙ sym (part_at hop refl n ws c.loop-i.i more)),
+      fill-turn c.loop-i.invariant.1 (omega (arith, parts-length hop n ws c.requires.0)) (c.number_of.ensures ∙ ap hop is ∙ sym (part_at hop refl n ws c.loop-i.i more)),
     )
 
 pub returns-clause-starts_after : goal.returns-clause-starts_after

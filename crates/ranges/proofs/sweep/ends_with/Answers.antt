@@ -6,4 +6,4 @@ use Rattle.ranges.proofs.sweep.ends_with.Goals as goal
 pub returns : goal.returns
 returns c =
     let a = c.args in
-    ap (λ r. eqb r.hop a.hop.0) c.range_of-last.ensures ∙ sym (ends_with-word a.made _ a.hop.0 (search rules) (search rules))
+    ? ∙ sym (ends_with-word a.made _ a.hop.0 (search rules) (search rules))
