@@ -18,5 +18,8 @@ part_at part z n ws i l =
 pub keys_length : (rs : List Route) → length (keys_of rs) ≡ length rs
 keys_length rs = length-map rs key_of
 
+pub ranges_in-length : (n : ℕ) (ws : List ℕ) → n ≤ length ws → length (ranges_in n ws) ≡ n
+ranges_in-length n ws l = length-map (take n ws) range_in ∙ length-take-le n ws l
+
 pub parts-length : (part : Range → ℕ) (n : ℕ) (ws : List ℕ) → n ≤ length ws → length (map part (ranges_in n ws)) ≡ n
-parts-length part n ws l = length-map (ranges_in n ws) part ∙ length-map (take n ws) range_in ∙ length-take-le n ws l
+parts-length part n ws l = length-map (ranges_in n ws) part ∙ ranges_in-length n ws l

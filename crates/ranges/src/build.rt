@@ -4,17 +4,14 @@
 // own, and the room is tested: only then is the first cell written. The scratch is larger for a
 // longer list, so that a short one does not pay for clearing it.
 ghost use Rattle.std.specs.Prelude.{◌≡◌, ◌*◌, ◌<◌, ◌≤◌, length};
-ghost use Rattle.route.specs.Refusals.{fine};
-ghost use Rattle.route.specs.Lists.{rows_fault};
 ghost use Rattle.route.specs.Entries.{routes_of};
 ghost use Rattle.route.specs.Shown.{counted};
 ghost use Rattle.ranges.specs.Ranges.{ranges_of, starts_of, hops_of};
 ghost use Rattle.ranges.specs.Words.{ranges_in};
 ghost use Rattle.route.specs.Rows.{overwritten};
 ghost use Rattle.ranges.specs.Builds.{IsBuilt};
-ghost use Rattle.ranges.specs.Loops.{keys_of};
+ghost use Rattle.ranges.specs.Loops.{keys_of, Tested};
 
-use crate::sort::sort;
 use crate::sweep::sweep_keys;
 use crate::words::{key_of, range_of};
 use route::list::List;
@@ -45,13 +42,13 @@ fn write_rows(words: &[u64], made: usize, starts: &mut [u32], range_hops: &mut [
 
 // The merged ranges of a list that has been tested, as words: how many there are.
 fn merge_ranges(list: &List, keys: &mut [u64], words: &mut [u64]) -> usize
-    requires tested { rows_fault 32 list.now.addresses.now list.now.lengths.now list.now.hops.now ≡ fine }
+    requires tested { Tested list.now }
     requires keys_len { (length keys.old ≡ length list.now.addresses.now) × (2 * length keys.old < length words.old) }
     ensures words_after { ranges_in result words.new ≡ ranges_of 32 (routes_of list.now) }
     ensures upper_bound { result ≤ length words.new }
 {
     pack(list, keys);
-    sort(keys, words);
+    keys.sort_unstable();
     sweep_keys(keys, words)
 }
 
@@ -62,17 +59,14 @@ fn build_with<const KEYS: usize, const WORDS: usize>(
     starts: &mut [u32],
     range_hops: &mut [u32],
 ) -> Result<usize, Refusal>
-    requires tested { rows_fault 32 list.now.addresses.now list.now.lengths.now list.now.hops.now ≡ fine }
+    requires tested { Tested list.now }
     requires fits { (length list.now.addresses.now ≤ KEYS) × (2 * KEYS < WORDS) × (WORDS ≤ 8193) }
     ensures { IsBuilt 32 list.now.addresses.now list.now.lengths.now list.now.hops.now starts.old range_hops.old (counted result) starts.new range_hops.new }
 {
     let mut keys = [0u64; KEYS];
     let mut words = [0u64; WORDS];
     let made = merge_ranges(list, &mut keys[..list.len()], &mut words);
-    if starts.len() < made {
-        return Err(Refusal::Room);
-    }
-    if range_hops.len() < made {
+    if (starts.len() < made) | (range_hops.len() < made) {
         return Err(Refusal::Room);
     }
     write_rows(&words, made, starts, range_hops);

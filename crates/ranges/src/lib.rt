@@ -3,7 +3,6 @@
 
 pub mod build;
 pub mod lookup;
-pub mod sort;
 pub mod sweep;
 pub mod words;
 
