@@ -1,24 +1,25 @@
 -- The values that the loops of a build fill rows with: a key for each entry, a part of the range for each word.
 use Rattle.std.proofs.Common.{◌≡◌, ℕ, ◌<◌, ◌≤◌, List, map, length, get_or, take, ap, ◌∙◌, length-take-le, get_or-take}
 use lib.ListN.{length-map, get_or-map}
-use Rattle.route.specs.Rule.{route}
-use Rattle.route.specs.Lists.{EqualRows, routes}
-use Rattle.route.specs.Loops.{route_at}
-use Rattle.route.proofs.Entries.{routes-length, routes-get}
+use Rattle.route.specs.Rule.{Route, route}
+use Rattle.route.specs.Loops.{entry_of}
 use Rattle.ranges.specs.Ranges.{Range}
 use Rattle.ranges.specs.Words.{key_of, range_in, ranges_in}
 use Rattle.ranges.specs.Loops.{keys_of}
 
-pub key-at : (ad ns hs : List ℕ) (i : ℕ) → EqualRows ad ns hs → get_or (keys_of (routes ad ns hs)) i 0 ≡ key_of (route_at ad ns hs i)
-key-at ad ns hs i e = get_or-map key_of (routes ad ns hs) i (route 0 0 0) ∙ ap key_of (routes-get ad ns hs i e)
+pub key-at : (rs : List Route) (i : ℕ) → get_or (keys_of rs) i 0 ≡ key_of (entry_of rs i)
+key-at rs i = get_or-map key_of rs i (route 0 0 0)
 
 pub part_at : (part : Range → ℕ) → part (range_in 0) ≡ 0 → (n : ℕ) (ws : List ℕ) (i : ℕ) → i < n →
     get_or (map part (ranges_in n ws)) i 0 ≡ part (range_in (get_or ws i 0))
 part_at part z n ws i l =
     (rw z at (get_or-map part (ranges_in n ws) i (range_in 0))) ∙ ap part (get_or-map range_in (take n ws) i 0 ∙ ap range_in (get_or-take n ws i 0 l))
 
-pub keys_length : (ad ns hs : List ℕ) → EqualRows ad ns hs → length (keys_of (routes ad ns hs)) ≡ length ad
-keys_length ad ns hs e = length-map (routes ad ns hs) key_of ∙ routes-length ad ns hs e
+pub keys_length : (rs : List Route) → length (keys_of rs) ≡ length rs
+keys_length rs = length-map rs key_of
+
+pub ranges_in-length : (n : ℕ) (ws : List ℕ) → n ≤ length ws → length (ranges_in n ws) ≡ n
+ranges_in-length n ws l = length-map (take n ws) range_in ∙ length-take-le n ws l
 
 pub parts-length : (part : Range → ℕ) (n : ℕ) (ws : List ℕ) → n ≤ length ws → length (map part (ranges_in n ws)) ≡ n
-parts-length part n ws l = length-map (ranges_in n ws) part ∙ length-map (take n ws) range_in ∙ length-take-le n ws l
+parts-length part n ws l = length-map (ranges_in n ws) part ∙ ranges_in-length n ws l

@@ -6,16 +6,13 @@ pub mod Rows
 pub mod Counting
 pub mod MergedRanges
 pub mod RangesAgree
--- The build: sorting, the sweep over routes in order, words, and that all of it makes the merged ranges.
-pub mod Sorting
+-- The build: the sweep over routes in order, words, and that all of it makes the merged ranges.
 pub mod LastMatch
 pub mod Sweeps
 pub mod Packing
 pub mod Rooms
--- The loops, by family: the lookup, filling a row, sorting, merging, the sweep.
+-- The loops, by family: the lookup, filling a row, the sweep.
 pub mod Scans
 pub mod Fills
-pub mod Sorts
-pub mod Merges
 pub mod Steps
 pub mod SweepLoops

@@ -1,7 +1,11 @@
 -- Words say what they were made from, and keys rise as their routes are in order. So the sweep over a list's sorted keys makes its
 -- merged ranges.
-use Rattle.std.proofs.Common.{◌≡◌, ℕ, ◌+◌, ◌*◌, ◌/◌, ◌%◌, ◌<◌, ◌≤◌, List, [], ◌∷◌, length, get_or, sym, ap, ◌∙◌, subst, ap₂, arith, le-ltb}
+use Rattle.std.proofs.Common.{◌≡◌, ℕ, zero, suc, ◌↔◌, refl, ◌+◌, ◌*◌, ◌/◌, ◌%◌, ◌<◌, ◌≤◌, List, [], ◌∷◌, length, get_or, sym, ap, ◌∙◌, subst, ap₂, arith, le-ltb}
 use mathlib.Core.List.Memᴰ
+use Rattle.std.specs.List.{Contains}
+use Rattle.std.specs.List.Sorted.{IsPermutation, IsSorted, IsNonDecreasing}
+use Rattle.std.specs.Ordering.{nat_cmp}
+use Rattle.std.proofs.lemmas.List.Sorted.{IsPermutation-sym, Contains-permutation, IsNonDecreasingBy-drop, IsNonDecreasingBy-from_sort}
 use Rattle.route.specs.Rule.{Route}
 use Rattle.route.specs.PrefixOrder
 use Rattle.route.specs.Refusals.{fine}
@@ -10,21 +14,18 @@ use Rattle.route.specs.RightHop.{◌∈◌}
 use Rattle.route.proofs.PrefixOrder.{by_key}
 use Rattle.route.proofs.LongestMatch.{SameSet}
 use Rattle.route.proofs.RouteSet.{RouteSet}
-use Rattle.route.proofs.Accepted.{rows_of_set, accepted_set}
+use Rattle.route.proofs.Accepted.{accepted_set}
 use Rattle.route.proofs.Entries.{routes-addresses}
 use Rattle.route.proofs.Members.{each_at}
 use Rattle.ranges.specs.Ranges.{Range, range, ranges_of}
 use Rattle.ranges.specs.Words.{key_of, route_in, routes_in, word_of, range_in}
 use Rattle.ranges.specs.Sweeps.{swept_ranges}
-use Rattle.ranges.specs.Sorting.{sorted, Ordered}
 use Rattle.ranges.specs.Builds.{table_of}
 use Rattle.ranges.specs.Loops.{keys_of}
 use Rattle.ranges.proofs.LastMatch.{InOrder, AllInOrder}
 use Rattle.ranges.proofs.Boundaries.{Placed}
 use Rattle.ranges.proofs.RangesAgree.{ranges_same}
-use Rattle.ranges.proofs.Sorting.{sorted-length, sorted-members, sorted-ordered}
 use Rattle.ranges.proofs.Sweeps.{sweep_makes}
-use Rattle.ranges.proofs.Fills.{keys_length}
 
 -- a start and a hop from their word
 word_start : (s h : ℕ) → s < 4294967296 → h < 65536 → (s * 65536 + h) / 65536 % 4294967296 ≡ s
@@ -67,57 +68,74 @@ key_order j k l b =
     by_key s.address s.length r.address r.length (omega arith) (omega arith)
     ∙ le-ltb (PrefixOrder.key_of s.address s.length) (PrefixOrder.key_of r.address r.length) (omega arith)
 
-keys_order : (ks : List ℕ) → ((k : ℕ) → k ∈ ks → k < 18014398509481984) → Ordered ks → AllInOrder (routes_in ks)
-keys_order [] b o = tt
-keys_order (k ∷ ks) b o = (
-  (λ s m. let n = Memᴰ.of_map route_in ks m in
-      subst (InOrder (route_in k)) n.2 (key_order k n.0 (o.0 n.0 n.1) (b n.0 (Memᴰ.tail n.1)))),
-  keys_order ks (λ j m. b j (Memᴰ.tail m)) o.1,
+-- a member stands at a place, and what stands at a place is a member
+contains : {k : ℕ} {ks : List ℕ} → k ∈ ks → Contains ks k
+contains (Memᴰ.head e) = (0, omega arith, sym e)
+contains (Memᴰ.tail m) = let c = contains m in (suc c.0, omega (arith, c.1), c.2)
+
+member-at : (ks : List ℕ) (i d : ℕ) → i < length ks → get_or ks i d ∈ ks
+member-at [] i d l = absurd (omega arith)
+member-at (k ∷ ks) zero d l = Memᴰ.head refl
+member-at (k ∷ ks) (suc i) d l = Memᴰ.tail (member-at ks i d (omega arith))
+
+member : {k : ℕ} {ks : List ℕ} → Contains ks k → k ∈ ks
+member {k} {ks} c = subst (λ j. j ∈ ks) c.2 (member-at ks c.0 k c.1)
+
+-- two rows of the same numbers have the same members
+same_members : {ks js : List ℕ} → IsPermutation ks js → (k : ℕ) → (k ∈ js) ↔ (k ∈ ks)
+same_members {ks} {js} p k = (
+  λ m. member (Contains-permutation js ks k (IsPermutation-sym ks js p) (contains m)),
+  λ m. member (Contains-permutation ks js k p (contains m)),
 )
 
--- the sorted keys of a set say it, in order
-module _ (rs : List Route) (fits : (r : Route) → r ∈ rs → Packable r) where
-  keys_say : SameSet rs (routes_in (sorted (keys_of rs)))
+keys_order : (ks : List ℕ) → ((k : ℕ) → k ∈ ks → k < 18014398509481984) → IsNonDecreasing ks → AllInOrder (routes_in ks)
+keys_order [] b up = tt
+keys_order (k ∷ ks) b up = (
+  (λ s m. let n = Memᴰ.of_map route_in ks m in
+      let at = contains n.1 in
+      let l : k ≤ n.0 = rw at.2 at (up 0 (suc at.0) n.0 (omega arith) (omega (arith, at.1))) in
+      subst (InOrder (route_in k)) n.2 (key_order k n.0 l (b n.0 (Memᴰ.tail n.1)))),
+  keys_order ks (λ j m. b j (Memᴰ.tail m)) (IsNonDecreasingBy-drop (λ x. x) 1 (k ∷ ks) up),
+)
+
+-- the keys of a set, sorted: they say it, in order
+module _ (rs : List Route) (fits : (r : Route) → r ∈ rs → Packable r) (ks : List ℕ) (same : IsPermutation (keys_of rs) ks) where
+  keys_say : SameSet rs (routes_in ks)
   keys_say r = (
-    (λ m. subst (λ s. s ∈ routes_in (sorted (keys_of rs))) (key_says r (fits r m))
-        (Memᴰ.map route_in ((sorted-members (key_of r) (keys_of rs)).1 (Memᴰ.map key_of m)))),
-    (λ m. let n = Memᴰ.of_map route_in (sorted (keys_of rs)) m in
-        let o = Memᴰ.of_map key_of rs ((sorted-members n.0 (keys_of rs)).0 n.1) in
+    (λ m. subst (λ s. s ∈ routes_in ks) (key_says r (fits r m))
+        (Memᴰ.map route_in ((same_members same (key_of r)).1 (Memᴰ.map key_of m)))),
+    (λ m. let n = Memᴰ.of_map route_in ks m in
+        let o = Memᴰ.of_map key_of rs ((same_members same n.0).0 n.1) in
         let e : o.0 ≡ r = sym (key_says o.0 (fits o.0 o.1)) ∙ ap route_in o.2 ∙ n.2 in
         subst (λ s. s ∈ rs) e o.1),
   )
 
-  keys_in_order : AllInOrder (routes_in (sorted (keys_of rs)))
-  keys_in_order = keys_order (sorted (keys_of rs)) below (sorted-ordered (keys_of rs))
+  keys_in_order : IsNonDecreasing ks → AllInOrder (routes_in ks)
+  keys_in_order = keys_order ks below
     where
-      below : (k : ℕ) → k ∈ sorted (keys_of rs) → k < 18014398509481984
+      below : (k : ℕ) → k ∈ ks → k < 18014398509481984
       below k m =
-          let o = Memᴰ.of_map key_of rs ((sorted-members k (keys_of rs)).0 m) in
+          let o = Memᴰ.of_map key_of rs ((same_members same k).0 m) in
           let f = fits o.0 o.1 in
           omega (arith, o.2, f.address, f.length, f.hop)
 
 -- so the sweep over them makes the merged ranges
-pub keys_make : (rs : List Route) → RouteSet 32 rs → Placed 32 rs → swept_ranges 32 (routes_in (sorted (keys_of rs))) ≡ ranges_of 32 rs
-keys_make rs ok placed =
-    let same = keys_say rs fits in
-    sweep_makes 32 (routes_in (sorted (keys_of rs))) (λ r m. ok.valid r ((same r).1 m)) (λ r m. placed r ((same r).1 m)) (keys_in_order rs fits)
-    ∙ ranges_same 32 rs (routes_in (sorted (keys_of rs))) ok placed same
+pub keys_make : (rs : List Route) → RouteSet 32 rs → Placed 32 rs → (ks : List ℕ) → IsPermutation (keys_of rs) ks → IsNonDecreasing ks →
+    swept_ranges 32 (routes_in ks) ≡ ranges_of 32 rs
+keys_make rs ok placed ks perm up =
+    let same = keys_say rs fits ks perm in
+    sweep_makes 32 (routes_in ks) (λ r m. ok.valid r ((same r).1 m)) (λ r m. placed r ((same r).1 m)) (keys_in_order rs fits ks perm up)
+    ∙ ranges_same 32 rs (routes_in ks) ok placed same
   where
     fits : (r : Route) → r ∈ rs → Packable r
     fits r m =
         let v = ok.valid r m in
         record { address = placed r m; length = omega (arith, v.short); hop = omega (arith, v.small) }
 
--- the keys of a list that has been tested, packed and sorted: as many as its entries, and what the sweep makes of them
-module _ (ad ns hs : List ℕ) (ok : rows_fault 32 ad ns hs ≡ fine) {packed : List ℕ} (is : packed ≡ keys_of (routes ad ns hs)) where
-  pub packed-length : length packed ≡ length ad
-  packed-length = rw is (keys_length ad ns hs ((rows_of_set 32 ad ns hs).0 ok).equal)
-
-  module _ {keys : List ℕ} (rises : keys ≡ sorted packed) where
-    pub keys-many : length keys ≡ length ad
-    keys-many = rw rises (sorted-length packed ∙ packed-length)
-
-    pub list-made : ((i : ℕ) → get_or ad i 0 < 4294967296) → {t : List Range} → t ≡ swept_ranges 32 (routes_in keys) → t ≡ table_of 32 ad ns hs
-    list-made small e =
-        let placed = routes-addresses (λ a. a < 4294967296) ad ns hs (each_at (λ a. a < 4294967296) ad small) in
-        (rw (rises, is) at e) ∙ keys_make (routes ad ns hs) (accepted_set 32 ad ns hs ok) placed
+-- the keys of a list that has been tested, sorted: what the sweep makes of them
+pub list-made : (ad ns hs : List ℕ) → rows_fault 32 ad ns hs ≡ fine → ((i : ℕ) → get_or ad i 0 < 4294967296) →
+    {packed keys : List ℕ} → packed ≡ keys_of (routes ad ns hs) → IsPermutation packed keys → IsSorted nat_cmp keys →
+    {t : List Range} → t ≡ swept_ranges 32 (routes_in keys) → t ≡ table_of 32 ad ns hs
+list-made ad ns hs ok small {packed} {keys} is perm up e =
+    let placed = routes-addresses (λ a. a < 4294967296) ad ns hs (each_at (λ a. a < 4294967296) ad small) in
+    e ∙ keys_make (routes ad ns hs) (accepted_set 32 ad ns hs ok) placed keys (rw is at perm) (IsNonDecreasingBy-from_sort (λ x. x) keys up)

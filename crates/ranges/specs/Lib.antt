@@ -1,9 +1,8 @@
 -- Range tables and the lookup; what is built from a list.
 pub mod Ranges
 pub mod Builds
--- How it is built: words, sorting, the sweep.
+-- How it is built: words, the sweep.
 pub mod Words
-pub mod Sorting
 pub mod Sweeps
 -- What the code's types show, and what only loops need.
 pub mod Shown

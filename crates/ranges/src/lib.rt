@@ -3,19 +3,13 @@
 
 pub mod build;
 pub mod lookup;
-pub mod sort;
 pub mod sweep;
 pub mod words;
 
 ghost use Rattle.std.specs.Prelude.{◌≡◌, ◌≤◌, if◌then◌else◌};
 
-use route::Counted;
-
 // The most ranges of a table: two for each entry of a list, and one.
 pub const MAX_RANGES: usize = 8193;
-
-// What a build answers: how many ranges there are, or the refusal.
-pub type Built = Counted;
 
 // What a test adds to a count: 1 where t holds, else 0.
 pub fn one_if(t: bool) -> u32

@@ -10,7 +10,7 @@ ghost use Rattle.ranges.specs.Loops.{range_at, behind_broken, behind_fault, behi
 
 use crate::words::Range;
 use crate::{MAX_RANGES, one_if};
-use route::{Found, MAX_HOP, OptionalHop, Refusal};
+use route::{Hop, MAX_HOP, Refusal};
 
 // Range i of two rows.
 fn range_at(starts: &[u32], range_hops: &[u32], i: usize) -> Range
@@ -19,7 +19,7 @@ fn range_at(starts: &[u32], range_hops: &[u32], i: usize) -> Range
 {
     Range {
         start: starts[i],
-        hop: OptionalHop(range_hops[i]),
+        hop: Hop::new(range_hops[i]),
     }
 }
 
@@ -27,14 +27,14 @@ fn range_at(starts: &[u32], range_hops: &[u32], i: usize) -> Range
 fn first_breaks(r: Range) -> bool
     ensures { result ≡ first_breaks (range_of r) }
 {
-    !(r.start == 0) | (MAX_HOP < r.hop.0)
+    !(r.start == 0) | (MAX_HOP < Hop::number_of(r.hop))
 }
 
 // Whether a range breaks a rule behind the range p.
 fn next_breaks(p: Range, r: Range) -> bool
     ensures { result ≡ breaks (range_of p) (range_of r) }
 {
-    (r.start <= p.start) | (r.hop.0 == p.hop.0) | (MAX_HOP < r.hop.0)
+    (r.start <= p.start) | (Hop::number_of(r.hop) == Hop::number_of(p.hop)) | (MAX_HOP < Hop::number_of(r.hop))
 }
 
 // Whether the range behind range i breaks a rule.
@@ -59,7 +59,7 @@ fn find_break(starts: &[u32], range_hops: &[u32]) -> usize
 }
 
 // The ranges behind the first: each is tested, and those that start at or below q are counted.
-fn look_behind(starts: &[u32], range_hops: &[u32], q: u32) -> Found
+fn look_behind(starts: &[u32], range_hops: &[u32], q: u32) -> Result<Option<Hop>, Refusal>
     requires { (length starts.now ≡ length range_hops.now) × (0 < length starts.now) × (length starts.now ≤ max_ranges) }
     ensures { shown result ≡ behind_answer starts.now range_hops.now 0 q }
 {
@@ -72,28 +72,28 @@ fn look_behind(starts: &[u32], range_hops: &[u32], q: u32) -> Found
         i += 1;
     }
     if bad {
-        return Found::Refused(Refusal::Image(find_break(starts, range_hops)));
+        return Err(Refusal::Image(find_break(starts, range_hops)));
     }
-    OptionalHop(range_hops[below as usize]).found()
+    Ok(Hop::new(range_hops[below as usize]))
 }
 
 // Looks q up in a range table: refusal 8 or 7, else the hop of the last range that starts at or
 // below q.
-pub fn lookup(starts: &[u32], range_hops: &[u32], q: u32) -> Found
+pub fn lookup(starts: &[u32], range_hops: &[u32], q: u32) -> Result<Option<Hop>, Refusal>
     ensures { shown result ≡ range_lookup starts.now range_hops.now q }
 {
     let n = starts.len();
     if n != range_hops.len() {
-        return Found::Refused(Refusal::Size);
+        return Err(Refusal::Size);
     }
     if MAX_RANGES < n {
-        return Found::Refused(Refusal::Size);
+        return Err(Refusal::Size);
     }
     if n == 0 {
-        return Found::Refused(Refusal::Image(0));
+        return Err(Refusal::Image(0));
     }
     if first_breaks(range_at(starts, range_hops, 0)) {
-        return Found::Refused(Refusal::Image(0));
+        return Err(Refusal::Image(0));
     }
     look_behind(starts, range_hops, q)
 }

@@ -4,7 +4,7 @@
 // address the one opened last is the longest. The stack stands in the front of the row of keys, whose
 // keys have been read.
 ghost use Rattle.std.specs.Prelude.{◌≡◌, ◌+◌, ◌*◌, ◌<◌, ◌≤◌, length, drop};
-ghost use Rattle.route.specs.Shown.{route_of};
+ghost use Rattle.route.specs.Shown.{hop_number, route_of};
 ghost use Rattle.route.specs.Loops.{before};
 ghost use Rattle.ranges.specs.Ranges.{range, past_end};
 ghost use Rattle.ranges.specs.Words.{key_at, routes_in, ranges_in};
@@ -13,7 +13,7 @@ ghost use Rattle.ranges.specs.Shown.{range_of, sweep_of};
 
 use crate::words::{Range, prefix_of, range_of, word_of};
 use route::rule::span_of;
-use route::{OptionalHop, Prefix};
+use route::{Hop, Prefix};
 use std::num::wrapping_add_u32;
 
 // Where a sweep is: how many prefixes are open, the address up to which ranges are made, how many
@@ -35,32 +35,32 @@ fn past_end(p: Prefix) -> u32
 }
 
 // The hop of the prefix opened last, none where none is open.
-fn open_hop(keys: &[u64], opened: usize) -> OptionalHop
+fn open_hop(keys: &[u64], opened: usize) -> Option<Hop>
     requires { opened ≤ length keys.now }
-    ensures { result.0 ≡ open_hop (before (key_at keys.now) opened) }
+    ensures { hop_number result ≡ open_hop (before (key_at keys.now) opened) }
 {
     if opened == 0 {
-        return OptionalHop(0);
+        return None;
     }
     let p = prefix_of(keys[opened - 1]);
-    OptionalHop(p.hop.0)
+    Hop::new(p.hop.0)
 }
 
 // Whether the last of the ranges has this hop.
-fn ends_with(words: &[u64], made: usize, hop: OptionalHop) -> bool
+fn ends_with(words: &[u64], made: usize, hop: Option<Hop>) -> bool
     requires { made ≤ length words.now }
-    ensures { result ≡ ends_with (ranges_in made words.now) hop.0 }
+    ensures { result ≡ ends_with (ranges_in made words.now) (hop_number hop) }
 {
     if made == 0 {
         return false;
     }
     let last = range_of(words[made - 1]);
-    last.hop.0 == hop.0
+    Hop::number_of(last.hop) == Hop::number_of(hop)
 }
 
 // Adds a range to those made, unless the last of them has its hop: how many there are then.
 fn join(words: &mut [u64], made: usize, r: Range) -> usize
-    requires { (made < length words.old) × (r.hop.0 < 65536) }
+    requires { (made < length words.old) × (hop_number r.hop < 65536) }
     ensures upper_bound { (result ≤ made + 1) × (ranges_in result words.new ≡ joined (ranges_in made words.old) (range_of r)) }
     ensures words_len_unchanged { length words.new ≡ length words.old }
 {

@@ -1,16 +1,16 @@
 // Routes and ranges as 64-bit words, which sort as their first parts do.
-ghost use Rattle.std.specs.Prelude.{◌≡◌};
+ghost use Rattle.std.specs.Prelude.{◌≡◌, ◌<◌};
 ghost use Rattle.route.specs.Shown.{route_of};
 ghost use Rattle.ranges.specs.Words.{key_of, route_in, word_of, range_in};
 ghost use Rattle.ranges.specs.Shown.{range_of};
 
-use route::{Hop, Length, OptionalHop, Prefix, order};
+use route::{Hop, Length, Prefix, order};
 
 // A range: where it starts, and its hop.
-#[derive(Clone, Copy)]
+#[derive(Clone, Copy, PartialEq, Eq)]
 pub struct Range {
     pub start: u32,
-    pub hop: OptionalHop,
+    pub hop: Option<Hop>,
 }
 
 // The key of a prefix: its address, then its length, then its hop.
@@ -35,7 +35,7 @@ pub(crate) fn prefix_of(key: u64) -> Prefix
 pub(crate) fn word_of(r: Range) -> u64
     ensures { result ≡ word_of (range_of r) }
 {
-    (r.start as u64) * 65536 + (r.hop.0 as u64)
+    (r.start as u64) * 65536 + (Hop::number_of(r.hop) as u64)
 }
 
 // The range that a word says.
@@ -44,6 +44,6 @@ pub(crate) fn range_of(word: u64) -> Range
 {
     Range {
         start: (word / 65536 % 4294967296) as u32,
-        hop: OptionalHop((word % 65536) as u32),
+        hop: Hop::new((word % 65536) as u32),
     }
 }

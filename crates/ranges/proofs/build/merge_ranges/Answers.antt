@@ -4,6 +4,6 @@ use Rattle.ranges.proofs.build.merge_ranges.Goals as goal
 
 pub returns-clause-words_after : goal.returns-clause-words_after
 returns-clause-words_after c =
-    let a = c.args in
-    list-made a.addresses.now a.lengths.now a.hops.now c.requires.hops_value c.pack.ensures c.sort.ensures.keys_after
-    (λ i. (c.type_inv.addresses i).fits) c.sweep_keys.ensures.words_after
+    let l = c.args.list.now in
+    list-made l.addresses.now l.lengths.now l.hops.now c.requires.tested.sound c.requires.tested.small c.pack.ensures c.sort_unstable.ensures.permutation
+    c.sort_unstable.ensures.sorted c.sweep_keys.ensures.words_after

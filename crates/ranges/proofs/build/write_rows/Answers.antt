@@ -1,5 +1,5 @@
 -- The cell at a place is the start, or the hop, of the range that the word there says.
-use Rattle.std.proofs.Common.{ℕ, sym, refl, ap, ◌∙◌, arith}
+use Rattle.std.proofs.Common.{ℕ, sym, refl, ap, ◌∙◌, arith, ◌<◌}
 use Rattle.ranges.specs.Ranges.{Range}
 use Rattle.route.proofs.Fills.{fill-turn, fill_end}
 use Rattle.ranges.proofs.Fills.{part_at, parts-length}
@@ -16,10 +16,10 @@ pub loop-i-preserved : goal.loop-i-preserved
 loop-i-preserved c =
     let n = c.args.made in
     let ws = c.args.words.now in
-    let more = c.loop-i-test.true in
+    let more : c.loop-i.i < n = omega arith in
     let is = c.range_of-r.ensures in (
       fill-turn c.loop-i.invariant.0 (omega (arith, parts-length start n ws c.requires.0)) (ap start is ∙ sym (part_at start refl n ws c.loop-i.i more)),
-      fill-turn c.loop-i.invariant.1 (omega (arith, parts-length hop n ws c.requires.0)) (ap hop is ∙ sym (part_at hop refl n ws c.loop-i.i more)),
+      fill-turn c.loop-i.invariant.1 (omega (arith, parts-length hop n ws c.requires.0)) (c.number_of.ensures ∙ ap hop is ∙ sym (part_at hop refl n ws c.loop-i.i more)),
     )
 
 pub returns-clause-starts_after : goal.returns-clause-starts_after

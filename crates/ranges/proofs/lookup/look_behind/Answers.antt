@@ -4,4 +4,4 @@ use Rattle.ranges.proofs.Scans.{tested-good}
 use Rattle.ranges.proofs.lookup.look_behind.Goals as goal
 
 pub returns : goal.returns
-returns c = c.found.ensures ∙ tested-good c.loop-i.invariant (search rules) c.if-bad.false
+returns c = c.new.ensures.shown ∙ tested-good c.loop-i.invariant (search rules) c.if-bad.false
