@@ -3,15 +3,15 @@
 -- A step is made while its line fits what is left of the buffer. So a part ends where the report is done or where the next line does not
 -- fit. A buffer that is too short for the next line is refused, so that every part that is answered has a line, but for that of a report
 -- that is done.
-use Rattle.std.specs.Prelude.{ℕ, zero, suc, ◌-◌, ◌≡◌, cond, not, ◌||◌, List, [], ◌∷◌, ◌++◌, ltb, length, drop}
+use Rattle.std.specs.Prelude.{ℕ, zero, suc, ◌-◌, ◌≡◌, cond, not, ◌||◌, List, [], ◌∷◌, ◌++◌, ltb, length, drop, Result, Ok, Err}
 use Rattle.route.specs.Refusals.{Verdict, fine, fault, fault_if, ◌then◌, size_refusal, room_refusal}
 use Rattle.route.specs.Shown.{number, place}
 use Rattle.tcam.specs.Slots.{size_fault}
 use Rattle.history.specs.Reports.{Rows}
 use Rattle.history.specs.Stages.{is_done, is_stage_of, Run, run, step_text, step_to, steps_left}
 use Rattle.history.specs.declared.Stage.{Stage}
-use Rattle.history.specs.declared.fill.Filled.{Filled}
-use Rattle.history.specs.declared.fill.Filled.TheVariants.{Part, Refused}
+use Rattle.route.specs.declared.Refusal.{Refusal}
+use Rattle.history.specs.declared.fill.Part.{Part}
 
 -- a part: its text, and how far the report has come behind it
 pub record Printed : Type 0 where
@@ -62,9 +62,9 @@ pub data FillAnswer : Type 0 where
   printed_to : (size : ℕ) → Stage → FillAnswer
   refused_fill : (number place : ℕ) → FillAnswer
 
-abbrev pub fill_answer : Filled → FillAnswer
-fill_answer (Part n s) = printed_to n s
-fill_answer (Refused r) = refused_fill (number r) (place r)
+abbrev pub fill_answer : Result Part Refusal → FillAnswer
+fill_answer (Ok p) = printed_to p.size p.stage
+fill_answer (Err r) = refused_fill (number r) (place r)
 
 -- what a call answers, and leaves in the table and the lent buffer
 pub record Fill : Type 0 where

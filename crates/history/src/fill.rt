@@ -4,19 +4,17 @@ ghost use Rattle.tcam.specs.Slots.{max_slots};
 ghost use Rattle.history.specs.Reports.{rows};
 ghost use Rattle.history.specs.Stages.{is_stage_of};
 ghost use Rattle.history.specs.Fills.{fill_answer, room_fault, fill_with, fill_of, IsFill};
-ghost use Rattle.history.specs.Steps.{Ready};
 
 use crate::Stage;
-use crate::step::step;
-use crate::trial::goes_on;
-use route::{Check, Refusal};
+use crate::step::Report;
+use route::Refusal;
 use tcam::slots::size_check;
 
-// A part's bytes and the stage behind it, or the refusal.
+// A part: its bytes, and the stage behind it.
 #[derive(Clone, Copy)]
-pub enum Filled {
-    Part(usize, Stage),
-    Refused(Refusal),
+pub struct Part {
+    pub size: usize,
+    pub stage: Stage,
 }
 
 // Whether a report of so many bytes can have come so far.
@@ -24,40 +22,33 @@ fn is_stage_of(size: usize, stage: Stage) -> bool
     ensures { result ≡ is_stage_of size stage }
 {
     match stage {
-        Stage::TooLong => true,
-        Stage::Header => true,
         Stage::Reading(n, at) => (n <= at) & (at <= size),
-        Stage::Listing(_) => true,
-        Stage::Done => true,
+        Stage::TooLong | Stage::Header | Stage::Listing(_) | Stage::Done => true,
     }
 }
 
-// As many lines as fit, or refusal 9 where the next one does not.
-fn fill_lines(
-    bytes: &[u8],
-    stage: Stage,
-    addresses: &mut [u32],
-    tags: &mut [u32],
-    out: &mut [u8],
-) -> Filled
-    requires { Ready bytes.now stage (rows addresses.old tags.old) × (length addresses.old ≤ max_slots) }
-    ensures { IsFill
-        (fill_with
-        (room_fault bytes.now stage (rows addresses.old tags.old) (length out.old))
-        bytes.now stage (rows addresses.old tags.old) out.old)
-        (fill_answer result) (rows addresses.new tags.new) out.new }
-{
-    let mut at = 0;
-    let mut s = stage;
-    while goes_on(bytes, s, addresses, tags, out.len() - at) {
-        let made = step(bytes, s, addresses, tags, &mut out[at..]);
-        s = made.stage;
-        at += made.size;
+impl<'a> Report<'a> {
+    // As many lines as fit, or refusal 9 where the next one does not.
+    fn fill(&mut self, out: &mut [u8]) -> Result<Part, Refusal>
+        requires { length self.old.addresses.now ≤ max_slots }
+        ensures { IsFill
+            (fill_with
+            (room_fault self.old.bytes.now self.old.stage (rows self.old.addresses.now self.old.tags.now) (length out.old))
+            self.old.bytes.now self.old.stage (rows self.old.addresses.now self.old.tags.now) out.old)
+            (fill_answer result) (rows self.new.addresses.now self.new.tags.now) out.new }
+    {
+        let mut at = 0;
+        while self.goes_on(out.len() - at) {
+            at += self.step(&mut out[at..]);
+        }
+        if (at == 0) & !self.stage.is_done() {
+            return Err(Refusal::Room);
+        }
+        Ok(Part {
+            size: at,
+            stage: self.stage,
+        })
     }
-    if (at == 0) & !s.is_done() {
-        return Filled::Refused(Refusal::Room);
-    }
-    Filled::Part(at, s)
 }
 
 // Prints the next part of the report into the buffer: the part's bytes, which stand at its front, and
@@ -69,17 +60,20 @@ pub fn fill(
     addresses: &mut [u32],
     tags: &mut [u32],
     out: &mut [u8],
-) -> Filled
+) -> Result<Part, Refusal>
     ensures { IsFill
         (fill_of bytes.now stage (rows addresses.old tags.old) out.old)
         (fill_answer result) (rows addresses.new tags.new) out.new }
 {
-    let size = size_check(addresses.len(), tags.len());
-    if let Check::Fault(f) = size {
-        return Filled::Refused(f);
-    }
+    size_check(addresses.len(), tags.len())?;
     if !is_stage_of(bytes.len(), stage) {
-        return Filled::Refused(Refusal::Size);
+        return Err(Refusal::Size);
     }
-    fill_lines(bytes, stage, addresses, tags, out)
+    let mut report = Report {
+        bytes,
+        stage,
+        addresses,
+        tags,
+    };
+    report.fill(out)
 }

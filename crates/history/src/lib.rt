@@ -48,12 +48,6 @@ impl Stage {
     pub fn is_done(self) -> bool
         ensures { result ≡ is_done self }
     {
-        match self {
-            Stage::TooLong => false,
-            Stage::Header => false,
-            Stage::Reading(_, _) => false,
-            Stage::Listing(_) => false,
-            Stage::Done => true,
-        }
+        matches!(self, Stage::Done)
     }
 }

@@ -1,54 +1,25 @@
 // One step of a report: a line, or nothing, and the stage behind it.
-ghost use Rattle.std.specs.Prelude.{◌≡◌, [], ◌≤◌, length};
+ghost use Rattle.std.specs.Prelude.{◌≡◌, ◌≤◌, length};
 ghost use Rattle.tcam.specs.Shown.{cell_of};
 ghost use Rattle.history.specs.Reports.{rows, slot_text};
 ghost use Rattle.history.specs.Stages.{step_text};
 ghost use Rattle.history.specs.Steps.{IsPrinted, IsStep, Ready};
 
 use crate::Stage;
-use crate::update::{report_update, size_of};
+use crate::update::report_update;
 use lines::line;
-use records::Step as Reply;
 use records::reader::read;
-use route::{Prefix, Slot};
+use route::Slot;
 use tcam::slots::Cell;
 
-// The bytes that a step printed, and the stage behind it.
-#[derive(Clone, Copy)]
-pub struct Stepped {
-    pub size: usize,
+// A report on its way: the bytes of its input, how far it has come, and its table.
+#[derive(Drop)]
+pub struct Report<'a> {
+    pub bytes: &'a [u8],
     pub stage: Stage,
-}
-
-// The record at a place.
-fn record_step(
-    bytes: &[u8],
-    n: usize,
-    at: usize,
-    addresses: &mut [u32],
-    tags: &mut [u32],
-    out: &mut [u8],
-) -> Stepped
-    requires n_le_at { (n ≤ at) × (at ≤ length bytes.now) }
-    requires tags_in_bounds { length (step_text bytes.now (Stage.Reading n at) (rows addresses.old tags.old)) ≤ length out.old }
-    ensures { IsStep bytes.now (Stage.Reading n at) (rows addresses.old tags.old) out.old
-        result (rows addresses.new tags.new) out.new }
-{
-    let nth = n + 1;
-    match read(bytes, at) {
-        Reply::End => Stepped {
-            size: 0,
-            stage: Stage::Listing(Slot(0)),
-        },
-        Reply::Refused(f) => Stepped {
-            size: size_of(line::refused(nth, f, out)),
-            stage: Stage::Listing(Slot(0)),
-        },
-        Reply::Next(asked, next) => Stepped {
-            size: report_update(nth, asked, addresses, tags, out),
-            stage: Stage::Reading(nth, next),
-        },
-    }
+    pub addresses: &'a mut [u32],
+    pub tags: &'a mut [u32],
+    ghost ready: { Ready bytes.now stage (rows addresses.now tags.now) },
 }
 
 // A slot's line, nothing where it is free.
@@ -59,65 +30,58 @@ fn slot_line(slot: Slot, c: Cell, out: &mut [u8]) -> usize
     if c.is_free() {
         return 0;
     }
-    let p = Prefix {
-        address: c.address,
-        length: c.length(),
-        hop: c.hop(),
-    };
-    size_of(line::slot(slot, p, out))
+    line::slot(slot, c.prefix(), out).unwrap_or(0)
 }
 
-// A slot of the table, or the end behind the last.
-fn slot_step(slot: Slot, addresses: &[u32], tags: &[u32], out: &mut [u8]) -> Stepped
-    requires addresses_len { length addresses.now ≡ length tags.now }
-    requires tags_in_bounds { length (step_text [] (Stage.Listing slot) (rows addresses.now tags.now)) ≤ length out.old }
-    ensures { IsStep [] (Stage.Listing slot) (rows addresses.now tags.now) out.old
-        result (rows addresses.now tags.now) out.new }
-{
-    let i = slot.0;
-    if addresses.len() <= i {
-        return Stepped {
-            size: size_of(line::end(out)),
-            stage: Stage::Done,
-        };
-    }
-    let c = Cell {
-        address: addresses[i],
-        tag: tags[i],
-    };
-    Stepped {
-        size: slot_line(slot, c, out),
-        stage: Stage::Listing(Slot(i + 1)),
-    }
-}
-
-// One step, whose line fits.
-pub(crate) fn step(
-    bytes: &[u8],
-    stage: Stage,
-    addresses: &mut [u32],
-    tags: &mut [u32],
-    out: &mut [u8],
-) -> Stepped
-    requires ready { Ready bytes.now stage (rows addresses.old tags.old) }
-    requires tags_in_bounds { length (step_text bytes.now stage (rows addresses.old tags.old)) ≤ length out.old }
-    ensures { IsStep bytes.now stage (rows addresses.old tags.old) out.old
-        result (rows addresses.new tags.new) out.new }
-{
-    match stage {
-        Stage::TooLong => Stepped {
-            size: size_of(line::too_long(out)),
-            stage: Stage::Done,
-        },
-        Stage::Header => Stepped {
-            size: size_of(line::header(addresses.len(), out)),
-            stage: Stage::Reading(0, 0),
-        },
-        Stage::Reading(n, at) => record_step(bytes, n, at, addresses, tags, out),
-        Stage::Listing(slot) => slot_step(slot, addresses, tags, out),
-        Stage::Done => Stepped {
-            size: 0,
-            stage: Stage::Done,
-        },
+impl<'a> Report<'a> {
+    // One step, whose line fits: the bytes that it printed.
+    pub fn step(&mut self, out: &mut [u8]) -> usize
+        requires { length (step_text self.old.bytes.now self.old.stage (rows self.old.addresses.now self.old.tags.now)) ≤ length out.old }
+        ensures step { IsStep self.old.bytes.now self.old.stage (rows self.old.addresses.now self.old.tags.now) out.old
+            result self.new.stage (rows self.new.addresses.now self.new.tags.now) out.new }
+        ensures bytes_unchanged { self.new.bytes.now ≡ self.old.bytes.now }
+    {
+        match self.stage {
+            Stage::TooLong => {
+                self.stage = Stage::Done;
+                line::too_long(out).unwrap_or(0)
+            }
+            Stage::Header => {
+                self.stage = Stage::Reading(0, 0);
+                line::header(self.addresses.len(), out).unwrap_or(0)
+            }
+            Stage::Reading(n, at) => {
+                let nth = n + 1;
+                match read(self.bytes, at) {
+                    Ok(Some((asked, next))) => {
+                        let size = report_update(nth, asked, self.addresses, self.tags, out);
+                        self.stage = Stage::Reading(nth, next);
+                        size
+                    }
+                    Ok(None) => {
+                        self.stage = Stage::Listing(Slot(0));
+                        0
+                    }
+                    Err(f) => {
+                        self.stage = Stage::Listing(Slot(0));
+                        line::refused(nth, f, out).unwrap_or(0)
+                    }
+                }
+            }
+            Stage::Listing(slot) => {
+                let i = slot.0;
+                if self.addresses.len() <= i {
+                    self.stage = Stage::Done;
+                    return line::end(out).unwrap_or(0);
+                }
+                let c = Cell {
+                    address: self.addresses[i],
+                    tag: self.tags[i],
+                };
+                self.stage = Stage::Listing(Slot(i + 1));
+                slot_line(slot, c, out)
+            }
+            Stage::Done => 0,
+        }
     }
 }

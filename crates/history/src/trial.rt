@@ -6,80 +6,38 @@ ghost use Rattle.std.specs.Prelude.{◌≡◌, not, ◌||◌, ◌≤◌, ltb, le
 ghost use Rattle.tcam.specs.Slots.{max_slots};
 ghost use Rattle.history.specs.Reports.{rows};
 ghost use Rattle.history.specs.Stages.{is_done, step_text};
-ghost use Rattle.history.specs.Steps.{Ready};
 
-use crate::Stage;
-use crate::step::step;
+use crate::step::Report;
 use lines::MAX_LINE;
 use tcam::MAX_SLOTS;
 
-// Copies a row.
-fn copy(from: &[u32], to: &mut [u32])
-    requires { length from.now ≡ length to.old }
-    ensures { to.new ≡ from.now }
-{
-    let mut i = 0;
-    while i < from.len() {
-        to[i] = from[i];
-        i += 1;
+impl<'a> Report<'a> {
+    // The size of the next step's line.
+    fn line_size(&self) -> usize
+        requires { length self.now.addresses.now ≤ max_slots }
+        ensures { result ≡ length (step_text self.now.bytes.now self.now.stage (rows self.now.addresses.now self.now.tags.now)) }
+    {
+        let n = self.addresses.len();
+        let mut addresses = [0u32; MAX_SLOTS];
+        let mut tags = [0u32; MAX_SLOTS];
+        addresses[..n].copy_from_slice(self.addresses);
+        tags[..n].copy_from_slice(self.tags);
+        let mut trial = Report {
+            bytes: self.bytes,
+            stage: self.stage,
+            addresses: &mut addresses[..n],
+            tags: &mut tags[..n],
+        };
+        let mut line = [0u8; MAX_LINE];
+        trial.step(&mut line)
     }
-}
 
-// The size of the step's line, with two rows to make the step on.
-fn line_size_on(
-    bytes: &[u8],
-    stage: Stage,
-    addresses: &[u32],
-    tags: &[u32],
-    own_addresses: &mut [u32],
-    own_tags: &mut [u32],
-) -> usize
-    requires ready { Ready bytes.now stage (rows addresses.now tags.now) }
-    requires addresses_len { (length addresses.now ≡ length own_addresses.old) × (length tags.now ≡ length own_tags.old) }
-    ensures { result ≡ length (step_text bytes.now stage (rows addresses.now tags.now)) }
-{
-    copy(addresses, own_addresses);
-    copy(tags, own_tags);
-    let mut line = [0u8; MAX_LINE];
-    let made = step(bytes, stage, own_addresses, own_tags, &mut line);
-    made.size
-}
-
-// The size of the step's line.
-fn line_size(bytes: &[u8], stage: Stage, addresses: &[u32], tags: &[u32]) -> usize
-    requires { Ready bytes.now stage (rows addresses.now tags.now) × (length addresses.now ≤ max_slots) }
-    ensures { result ≡ length (step_text bytes.now stage (rows addresses.now tags.now)) }
-{
-    let n = addresses.len();
-    let mut own_addresses = [0u32; MAX_SLOTS];
-    let mut own_tags = [0u32; MAX_SLOTS];
-    line_size_on(
-        bytes,
-        stage,
-        addresses,
-        tags,
-        &mut own_addresses[..n],
-        &mut own_tags[..n],
-    )
-}
-
-// Whether there is a step whose line fits so many bytes.
-pub(crate) fn goes_on(
-    bytes: &[u8],
-    stage: Stage,
-    addresses: &[u32],
-    tags: &[u32],
-    room: usize,
-) -> bool
-    requires { Ready bytes.now stage (rows addresses.now tags.now) × (length addresses.now ≤ max_slots) }
-    ensures { result ≡ not (is_done stage
-        || ltb room (length (step_text bytes.now stage (rows addresses.now tags.now)))) }
-{
-    if stage.is_done() {
-        return false;
+    // Whether there is a step whose line fits so many bytes.
+    pub(crate) fn goes_on(&self, room: usize) -> bool
+        requires { length self.now.addresses.now ≤ max_slots }
+        ensures { result ≡ not (is_done self.now.stage
+            || ltb room (length (step_text self.now.bytes.now self.now.stage (rows self.now.addresses.now self.now.tags.now)))) }
+    {
+        !self.stage.is_done() && (MAX_LINE <= room || self.line_size() <= room)
     }
-    if MAX_LINE <= room {
-        return true;
-    }
-    line_size(bytes, stage, addresses, tags) <= room
 }

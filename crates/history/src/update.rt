@@ -5,11 +5,11 @@ ghost use Rattle.records.specs.Shown.{update_of};
 ghost use Rattle.tcam.specs.Plans.{IsPlanned};
 ghost use Rattle.lines.specs.Lines.{IsWritten};
 ghost use Rattle.history.specs.Reports.{rows, plan_of, accepted_text, reported_text};
-ghost use Rattle.history.specs.Steps.{size_of, IsUpdated, IsReported};
+ghost use Rattle.history.specs.Steps.{IsUpdated, IsReported};
 
 use lines::line;
 use records::Record;
-use route::Counted;
+use route::Refusal;
 use tcam::MAX_WRITES;
 use tcam::apply::apply;
 use tcam::image::used_slots;
@@ -19,7 +19,7 @@ use tcam::plan::{plan_remove, plan_set};
 const PLAN_CELLS: usize = 3 * MAX_WRITES;
 
 // Plans what a record asks for.
-fn plan_of(asked: Record, addresses: &[u32], tags: &[u32], plan: &mut [u32]) -> Counted
+fn plan_of(asked: Record, addresses: &[u32], tags: &[u32], plan: &mut [u32]) -> Result<usize, Refusal>
     ensures { IsPlanned (plan_of (rows addresses.now tags.now) (update_of asked) (length plan.old))
         plan.old (counted result) plan.new }
 {
@@ -31,29 +31,17 @@ fn plan_of(asked: Record, addresses: &[u32], tags: &[u32], plan: &mut [u32]) -> 
 
 // Plans what a record asks for and applies the whole plan: the number of writes, or the plan's refusal
 // with the table as it was.
-fn update_table(asked: Record, addresses: &mut [u32], tags: &mut [u32]) -> Counted
+fn update_table(asked: Record, addresses: &mut [u32], tags: &mut [u32]) -> Result<usize, Refusal>
     ensures { IsUpdated (update_of asked) (rows addresses.old tags.old)
         (counted result) (rows addresses.new tags.new) }
 {
     let mut plan = [0u32; PLAN_CELLS];
-    match plan_of(asked, addresses, tags, &mut plan) {
-        Counted::Refused(f) => Counted::Refused(f),
-        Counted::Count(writes) => apply(addresses, tags, &plan, writes),
-    }
-}
-
-// The bytes of a line that was written.
-pub(crate) fn size_of(written: Counted) -> usize
-    ensures { result ≡ size_of (counted written) }
-{
-    match written {
-        Counted::Count(n) => n,
-        Counted::Refused(_) => 0,
-    }
+    let writes = plan_of(asked, addresses, tags, &mut plan)?;
+    apply(addresses, tags, &plan, writes)
 }
 
 // The line of an accepted update.
-fn accepted_line(nth: usize, asked: Record, writes: usize, used: usize, out: &mut [u8]) -> Counted
+fn accepted_line(nth: usize, asked: Record, writes: usize, used: usize, out: &mut [u8]) -> Result<usize, Refusal>
     ensures { IsWritten (accepted_text nth (update_of asked) writes used) out.old (counted result) out.new }
 {
     match asked {
@@ -74,11 +62,9 @@ pub(crate) fn report_update(
     ensures { IsReported nth (update_of asked) (rows addresses.old tags.old) out.old
         result (rows addresses.new tags.new) out.new }
 {
-    match update_table(asked, addresses, tags) {
-        Counted::Refused(f) => size_of(line::refused(nth, f, out)),
-        Counted::Count(writes) => {
-            let used = used_slots(addresses, tags);
-            size_of(accepted_line(nth, asked, writes, used, out))
-        }
-    }
+    let written = match update_table(asked, addresses, tags) {
+        Err(f) => line::refused(nth, f, out),
+        Ok(writes) => accepted_line(nth, asked, writes, used_slots(addresses, tags), out),
+    };
+    written.unwrap_or(0)
 }
