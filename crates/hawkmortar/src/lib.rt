@@ -25,9 +25,10 @@ ghost use Rattle.hawkmortar.specs.Downloads.{given, entry_after};
 ghost use Rattle.hawkmortar.specs.Records.{placed, cells, cells_after};
 ghost use Rattle.std.proofs.Math.ListN;
 
-use records::{Record, Step};
-use route::{Counted, Found, Hop, Length, Prefix, Refusal};
-use tcam::download::{From, Next, next_entry};
+use records::Record;
+use route::{Hop, Length, Prefix, Refusal};
+use tcam::download::next_entry;
+use tcam::slots::Cell;
 
 #[repr(C)]
 #[derive(Clone, Copy)]
@@ -41,7 +42,7 @@ pub struct Outcome {
 pub extern "C" fn hawkmortar_list_check(addresses: &[u32], lengths: &[u32], hops: &[u32]) -> Outcome
     ensures { result ≡ outcome (list_check 32 addresses.now lengths.now hops.now) }
 {
-    of_counted(route::list::check(addresses, lengths, hops))
+    Outcome::from(route::list::check(addresses, lengths, hops))
 }
 
 // Looks q up in a list; the value is the next hop, 0 for none.
@@ -54,7 +55,7 @@ pub extern "C" fn hawkmortar_list_lookup(
 ) -> Outcome
     ensures { result ≡ outcome (list_lookup 32 addresses.now lengths.now hops.now q) }
 {
-    of_found(route::list::lookup(addresses, lengths, hops, q))
+    Outcome::from(route::list::lookup(addresses, lengths, hops, q))
 }
 
 // Tests a list that is one slice of prefixes; the value is the number of entries.
@@ -62,7 +63,7 @@ pub extern "C" fn hawkmortar_list_lookup(
 pub extern "C" fn hawkmortar_prefixes_check(list: &[Prefix]) -> Outcome
     ensures { result ≡ outcome (prefixes_check 32 list.now) }
 {
-    of_counted(prefixes::check(list))
+    Outcome::from(prefixes::check(list))
 }
 
 // Looks q up in such a list; the value is the next hop, 0 for none.
@@ -70,7 +71,7 @@ pub extern "C" fn hawkmortar_prefixes_check(list: &[Prefix]) -> Outcome
 pub extern "C" fn hawkmortar_prefixes_lookup(list: &[Prefix], q: u32) -> Outcome
     ensures { result ≡ outcome (prefixes_lookup 32 list.now q) }
 {
-    of_found(prefixes::lookup(list, q))
+    Outcome::from(prefixes::lookup(list, q))
 }
 
 // Tests a table; the value is the number of used slots.
@@ -78,7 +79,7 @@ pub extern "C" fn hawkmortar_prefixes_lookup(list: &[Prefix], q: u32) -> Outcome
 pub extern "C" fn hawkmortar_slot_check(addresses: &[u32], tags: &[u32]) -> Outcome
     ensures { result ≡ outcome (slot_check 32 addresses.now tags.now) }
 {
-    of_counted(tcam::image::check(addresses, tags))
+    Outcome::from(tcam::image::check(addresses, tags))
 }
 
 // Looks q up in a table; the value is the next hop, 0 for none.
@@ -86,7 +87,7 @@ pub extern "C" fn hawkmortar_slot_check(addresses: &[u32], tags: &[u32]) -> Outc
 pub extern "C" fn hawkmortar_slot_lookup(addresses: &[u32], tags: &[u32], q: u32) -> Outcome
     ensures { result ≡ outcome (slot_lookup 32 addresses.now tags.now q) }
 {
-    of_found(tcam::lookup::lookup(addresses, tags, q))
+    Outcome::from(tcam::lookup::lookup(addresses, tags, q))
 }
 
 // Plans a set; the value is the number of writes, which the plan then holds.
@@ -102,7 +103,7 @@ pub extern "C" fn hawkmortar_plan_set(
     ensures value { result ≡ outcome (plan_answer (plan_set 32 addresses.now tags.now address length hop (ListN.length plan.old))) }
     ensures plan_after { plan.new ≡ row_after (plan_set 32 addresses.now tags.now address length hop (ListN.length plan.old)) plan.old }
 {
-    of_counted(tcam::plan::plan_set(addresses, tags, address, Length(length), Hop(hop), plan))
+    Outcome::from(tcam::plan::plan_set(addresses, tags, address, Length(length), Hop(hop), plan))
 }
 
 // Plans a removal; the value is the number of writes, which the plan then holds.
@@ -117,7 +118,7 @@ pub extern "C" fn hawkmortar_plan_remove(
     ensures value { result ≡ outcome (plan_answer (plan_remove 32 addresses.now tags.now address length (ListN.length plan.old))) }
     ensures plan_after { plan.new ≡ row_after (plan_remove 32 addresses.now tags.now address length (ListN.length plan.old)) plan.old }
 {
-    of_counted(tcam::plan::plan_remove(addresses, tags, address, Length(length), plan))
+    Outcome::from(tcam::plan::plan_remove(addresses, tags, address, Length(length), plan))
 }
 
 // Plans a mend; the value is the number of writes, which the plan then holds.
@@ -126,7 +127,7 @@ pub extern "C" fn hawkmortar_plan_mend(addresses: &[u32], tags: &[u32], plan: &m
     ensures value { result ≡ outcome (plan_answer (plan_mend 32 addresses.now tags.now (ListN.length plan.old))) }
     ensures plan_after { plan.new ≡ row_after (plan_mend 32 addresses.now tags.now (ListN.length plan.old)) plan.old }
 {
-    of_counted(tcam::mend::plan_mend(addresses, tags, plan))
+    Outcome::from(tcam::mend::plan_mend(addresses, tags, plan))
 }
 
 // Applies the first k writes of a plan; the value is k.
@@ -141,7 +142,7 @@ pub extern "C" fn hawkmortar_apply(
     ensures addresses_after { addresses.new ≡ applied_addresses 32 addresses.old tags.old plan.now k }
     ensures tags_after { tags.new ≡ applied_tags 32 addresses.old tags.old plan.now k }
 {
-    of_counted(tcam::apply::apply(addresses, tags, plan, k))
+    Outcome::from(tcam::apply::apply(addresses, tags, plan, k))
 }
 
 // The first entry of a table in order of address, then length; its address, length and tag are put
@@ -155,7 +156,7 @@ pub extern "C" fn hawkmortar_download_first(
     ensures value { result ≡ outcome (given (download 32 addresses.now tags.now start)) }
     ensures after { entry.new ≡ entry_after (download 32 addresses.now tags.now start) entry.old }
 {
-    put_next(next_entry(addresses, tags, From::Start), entry)
+    put_next(next_entry(addresses, tags, None), entry)
 }
 
 // The next entry past a prefix, which need not be there; as of the first.
@@ -170,21 +171,20 @@ pub extern "C" fn hawkmortar_download_next(
     ensures value { result ≡ outcome (given (download 32 addresses.now tags.now (past address length))) }
     ensures after { entry.new ≡ entry_after (download 32 addresses.now tags.now (past address length)) entry.old }
 {
-    let from = From::Past(address, Length(length));
-    put_next(next_entry(addresses, tags, from), entry)
+    let past = Some((address, Length(length)));
+    put_next(next_entry(addresses, tags, past), entry)
 }
 
 // What a download answered; an entry is put into three cells.
-fn put_next(next: Next, entry: &mut [u32; 3]) -> Outcome
+fn put_next(next: Result<Option<Cell>, Refusal>, entry: &mut [u32; 3]) -> Outcome
     ensures value { result ≡ outcome (given (next_of next)) }
     ensures after { entry.new ≡ entry_after (next_of next) entry.old }
 {
     match next {
-        Next::Refused(r) => refused(r),
-        Next::End => accepted(0),
-        Next::Entry(c) => {
-            let n = c.length();
-            *entry = [c.address, n.0, c.tag];
+        Err(r) => Outcome::from(r),
+        Ok(None) => accepted(0),
+        Ok(Some(c)) => {
+            *entry = [c.address, c.length().0, c.tag];
             accepted(1)
         }
     }
@@ -203,7 +203,7 @@ pub extern "C" fn hawkmortar_ranges_build(
     ensures starts_after { starts.new ≡ built_starts 32 addresses.now lengths.now hops.now starts.old range_hops.old }
     ensures range_hops_after { range_hops.new ≡ built_hops 32 addresses.now lengths.now hops.now starts.old range_hops.old }
 {
-    of_counted(ranges::build::build(addresses, lengths, hops, starts, range_hops))
+    Outcome::from(ranges::build::build(addresses, lengths, hops, starts, range_hops))
 }
 
 // Looks q up in a range table; the value is the next hop, 0 for none.
@@ -211,7 +211,7 @@ pub extern "C" fn hawkmortar_ranges_build(
 pub extern "C" fn hawkmortar_range_lookup(starts: &[u32], range_hops: &[u32], q: u32) -> Outcome
     ensures { result ≡ outcome (range_lookup starts.now range_hops.now q) }
 {
-    of_found(ranges::lookup::lookup(starts, range_hops, q))
+    Outcome::from(ranges::lookup::lookup(starts, range_hops, q))
 }
 
 // Builds the DXR table of a list in a main table and in the front of a row of range words; the value
@@ -228,7 +228,7 @@ pub extern "C" fn hawkmortar_dxr_build(
     ensures main_after { main.new ≡ built_main 32 16 addresses.now lengths.now hops.now main.old words.old }
     ensures words_after { words.new ≡ built_words 32 16 addresses.now lengths.now hops.now main.old words.old }
 {
-    of_counted(dxr::build::build(addresses, lengths, hops, main, words))
+    Outcome::from(dxr::build::build(addresses, lengths, hops, main, words))
 }
 
 // Looks q up in a DXR table; the value is the next hop, 0 for none.
@@ -236,7 +236,7 @@ pub extern "C" fn hawkmortar_dxr_build(
 pub extern "C" fn hawkmortar_dxr_lookup(main: &[u32], words: &[u32], q: u32) -> Outcome
     ensures { result ≡ outcome (dxr_lookup 32 16 main.now words.now q) }
 {
-    of_found(dxr::lookup::lookup(main, words, q))
+    Outcome::from(dxr::lookup::lookup(main, words, q))
 }
 
 // What stands at a place of some bytes: a record, whose kind, length, address and hop are put into
@@ -247,26 +247,22 @@ pub extern "C" fn hawkmortar_record_at(bytes: &[u8], at: usize, record: &mut [u3
     ensures record_after { «record».new ≡ cells_after (record_at 32 bytes.now at) «record».old }
 {
     match records::reader::read(bytes, at) {
-        Step::Refused(r) => refused(r),
-        Step::End => accepted(at as u64),
-        Step::Next(r, next) => {
-            put_record(r, record);
+        Err(r) => Outcome::from(r),
+        Ok(None) => accepted(at as u64),
+        Ok(Some((r, next))) => {
+            *record = cells_of(r);
             accepted(next as u64)
         }
     }
 }
 
 // A record in four cells.
-fn put_record(r: Record, row: &mut [u32; 4])
-    ensures { row.new ≡ cells (update_of r) }
+fn cells_of(r: Record) -> [u32; 4]
+    ensures { result ≡ cells (update_of r) }
 {
     match r {
-        Record::Remove(address, length) => {
-            *row = [0, length.0, address, 0];
-        }
-        Record::Set(p) => {
-            *row = [1, p.length.0, p.address, p.hop.0];
-        }
+        Record::Remove(address, length) => [0, length.0, address, 0],
+        Record::Set(p) => [1, p.length.0, p.address, p.hop.0],
     }
 }
 
@@ -277,35 +273,40 @@ fn accepted(value: u64) -> Outcome
     Outcome { refusal: 0, value }
 }
 
-// A refusal's number and place.
-fn refused(r: Refusal) -> Outcome
-    ensures { result ≡ outcome (Answer.refused (number r) (place r)) }
-{
-    let number = r.number() as u64;
-    let place = r.place() as u64;
-    Outcome {
-        refusal: number,
-        value: place,
+impl From<Refusal> for Outcome {
+    ghost from_gives = { λ r o. o ≡ outcome (Answer.refused (number r) (place r)) };
+
+    // A refusal's number and place.
+    fn from(r: Refusal) -> Outcome {
+        let number = r.number() as u64;
+        let place = r.place() as u64;
+        Outcome {
+            refusal: number,
+            value: place,
+        }
     }
 }
 
-// What a call that counts answered.
-fn of_counted(c: Counted) -> Outcome
-    ensures { result ≡ outcome (counted c) }
-{
-    match c {
-        Counted::Count(n) => accepted(n as u64),
-        Counted::Refused(r) => refused(r),
+impl From<Result<usize, Refusal>> for Outcome {
+    ghost from_gives = { λ c o. o ≡ outcome (counted c) };
+
+    // What a call that counts answered.
+    fn from(c: Result<usize, Refusal>) -> Outcome {
+        match c {
+            Ok(n) => accepted(n as u64),
+            Err(r) => Outcome::from(r),
+        }
     }
 }
 
-// What a lookup answered; none is 0.
-fn of_found(f: Found) -> Outcome
-    ensures { result ≡ outcome (shown f) }
-{
-    match f {
-        Found::Nothing => accepted(0),
-        Found::Via(h) => accepted(h.0 as u64),
-        Found::Refused(r) => refused(r),
+impl From<Result<Option<Hop>, Refusal>> for Outcome {
+    ghost from_gives = { λ f o. o ≡ outcome (shown f) };
+
+    // What a lookup answered; none is 0.
+    fn from(f: Result<Option<Hop>, Refusal>) -> Outcome {
+        match f {
+            Ok(hop) => accepted(Hop::number_of(hop) as u64),
+            Err(r) => Outcome::from(r),
+        }
     }
 }

@@ -1,22 +1,22 @@
 // Update records: what stands at a place of the bytes, and a reader that keeps the bytes and its place.
 //
-// Any bytes get an answer: a record with the next place, the end of the input, or a refusal with its
-// number and place. A record's next place lies behind the place that was asked for and within the
-// input (proofs/Places), so a loop from place to place ends.
+// Any bytes get an answer: a record with the next place, nothing at the end of the input, or a refusal
+// with its number and place. A record's next place lies behind the place that was asked for and within
+// the input (proofs/Places), so a loop from place to place ends.
 #![tactic(auto)]
 
 pub mod numbers;
 pub mod reader;
 
-ghost use Rattle.std.specs.Prelude.{◌≡◌, ◌*◌, ◌^◌, ◌≤◌, ◌<◌, leb};
+ghost use Rattle.std.specs.Prelude.{◌≡◌, ◌*◌, ◌^◌, ◌≤◌, ◌<◌, leb, ltb, IfOk, IfSome, IsNone};
 ghost use Rattle.route.specs.Rule.{span};
-ghost use Rattle.route.specs.Refusals.{fault_if, address_refusal};
+ghost use Rattle.route.specs.Refusals.{fault_if, hop_fault, address_refusal, length_refusal, kind_refusal};
 ghost use Rattle.route.specs.Shown.{verdict_of};
-ghost use Rattle.records.specs.Records.{hop_from, address_from, length_from, kind_from, record_at};
-ghost use Rattle.records.specs.Shown.{reply};
+ghost use Rattle.records.specs.Records.{checked_at, kind_from, record_at};
+ghost use Rattle.records.specs.Shown.{kind_number, reading_by, reply, reply_of};
 
-use numbers::{Number, number_at, small_number_at};
-use route::{Check, Hop, Length, Prefix, Refusal, rule};
+use numbers::number_at;
+use route::{Hop, Length, Prefix, Refusal, rule};
 
 // What a record asks for: the set of a prefix with its next hop, or the removal of one.
 #[derive(Clone, Copy)]
@@ -25,100 +25,108 @@ pub enum Record {
     Remove(u32, Length),
 }
 
-// What stands at a place: a record and the next place, the end of the input, or a refusal.
+// A record's kind.
 #[derive(Clone, Copy)]
-pub enum Step {
-    Next(Record, usize),
-    End,
-    Refused(Refusal),
+enum Kind {
+    Remove,
+    Set,
 }
 
-// What stands at a place of the bytes. Refusal 8 for a place past them; then each number is read,
-// 11 and 12, and checked before the next: 13 the kind, 1 the length, 2 the address, 3 the hop.
-pub fn record_at(bytes: &[u8], at: usize) -> Step
-    ensures { reply result ≡ record_at 32 bytes.now at }
-{
-    if bytes.len() < at {
-        return Step::Refused(Refusal::Size);
-    }
-    if at == bytes.len() {
-        return Step::End;
-    }
-    kind_from(bytes, at)
-}
-
-// A record, from its kind on.
-fn kind_from(bytes: &[u8], at: usize) -> Step
-    ensures { reply result ≡ kind_from 32 bytes.now at }
-{
-    match small_number_at(bytes, at, 1, Refusal::Kind(at)) {
-        Number::Refused(f) => Step::Refused(f),
-        Number::Value(kind, next) => length_from(bytes, next, kind),
-    }
-}
-
-// A record of this kind, from its length on.
-fn length_from(bytes: &[u8], at: usize, kind: u32) -> Step
-    ensures { reply result ≡ length_from 32 bytes.now at kind }
-{
-    match small_number_at(bytes, at, 32, Refusal::Length(at)) {
-        Number::Refused(f) => Step::Refused(f),
-        Number::Value(length, next) => address_from(bytes, next, kind, Length(length)),
-    }
-}
-
-// A record of this kind and length, from its address on.
-fn address_from(bytes: &[u8], at: usize, kind: u32, length: Length) -> Step
-    requires { length.0 ≤ 32 }
-    ensures { reply result ≡ address_from 32 bytes.now at kind length.0 }
-{
-    match number_at(bytes, at) {
-        Number::Refused(f) => Step::Refused(f),
-        Number::Value(x, next) => match quotient_check(at, x, length) {
-            Check::Fault(f) => Step::Refused(f),
-            Check::Fine => {
-                let address = address_of(x, length);
-                if kind == 0 {
-                    return Step::Next(Record::Remove(address, length), next);
-                }
-                hop_from(bytes, next, address, length)
-            }
-        },
-    }
-}
-
-// The set of this prefix, from its hop on.
-fn hop_from(bytes: &[u8], at: usize, address: u32, length: Length) -> Step
-    ensures { reply result ≡ hop_from bytes.now at address length.0 }
-{
-    match number_at(bytes, at) {
-        Number::Refused(f) => Step::Refused(f),
-        Number::Value(h, next) => {
-            let hop = Hop(h);
-            match rule::hop_check(at, hop) {
-                Check::Fault(f) => Step::Refused(f),
-                Check::Fine => Step::Next(
-                    Record::Set(Prefix {
-                        address,
-                        length,
-                        hop,
-                    }),
-                    next,
-                ),
-            }
+impl Kind {
+    // The kind that a number says.
+    fn new(n: u32) -> Option<Kind>
+        ensures some { IfSome result (λ kind. kind_number kind ≡ n) }
+        ensures none { IsNone result → 1 < n }
+    {
+        match n {
+            0 => Some(Kind::Remove),
+            1 => Some(Kind::Set),
+            _ => None,
         }
     }
 }
 
-// Refusal 2 for a quotient by the span that no address of 32 bits has.
-fn quotient_check(place: usize, x: u32, length: Length) -> Check
-    requires { length.0 ≤ 32 }
-    ensures { verdict_of result ≡ fault_if (leb (2 ^ length.0) x) address_refusal place }
+// What stands at a place of the bytes. Refusal 8 for a place past them; then each number is read,
+// 11 and 12, and checked before the next: 13 the kind, 1 the length, 2 the address, 3 the hop.
+pub fn record_at(bytes: &[u8], at: usize) -> Result<Option<(Record, usize)>, Refusal>
+    ensures { reply result ≡ record_at 32 bytes.now at }
 {
-    if 1u64 << length.0 <= x as u64 {
-        return Check::Fault(Refusal::Address(place));
+    if bytes.len() < at {
+        return Err(Refusal::Size);
     }
-    Check::Fine
+    if at == bytes.len() {
+        return Ok(None);
+    }
+    let read = record_from(bytes, at)?;
+    Ok(Some(read))
+}
+
+// A record, from its kind on.
+fn record_from(bytes: &[u8], at: usize) -> Result<(Record, usize), Refusal>
+    ensures { reply_of result ≡ kind_from 32 bytes.now at }
+{
+    let (kind, next) = kind_at(bytes, at)?;
+    let (length, next) = length_at(bytes, next)?;
+    let (quotient, next) = quotient_at(bytes, next, length)?;
+    let address = address_of(quotient, length);
+    match kind {
+        Kind::Remove => Ok((Record::Remove(address, length), next)),
+        Kind::Set => {
+            let (hop, next) = hop_at(bytes, next)?;
+            let set = Prefix {
+                address,
+                length,
+                hop,
+            };
+            Ok((Record::Set(set), next))
+        }
+    }
+}
+
+// The kind at a place.
+fn kind_at(bytes: &[u8], at: usize) -> Result<(Kind, usize), Refusal>
+    ensures { reading_by kind_number result ≡ checked_at bytes.now at (λ n. fault_if (ltb 1 n) kind_refusal at) }
+{
+    let (n, next) = number_at(bytes, at)?;
+    match Kind::new(n) {
+        Some(kind) => Ok((kind, next)),
+        None => Err(Refusal::Kind(at)),
+    }
+}
+
+// The length at a place.
+fn length_at(bytes: &[u8], at: usize) -> Result<(Length, usize), Refusal>
+    ensures reading { reading_by (λ n. n.0) result ≡ checked_at bytes.now at (λ n. fault_if (ltb 32 n) length_refusal at) }
+    ensures most { IfOk result (λ p. p.0.0 ≤ 32) }
+{
+    let (n, next) = number_at(bytes, at)?;
+    if 32 < n {
+        return Err(Refusal::Length(at));
+    }
+    Ok((Length(n), next))
+}
+
+// The quotient at a place, of an address by the span of this length.
+fn quotient_at(bytes: &[u8], at: usize, length: Length) -> Result<(u32, usize), Refusal>
+    requires { length.0 ≤ 32 }
+    ensures reading { reading_by (λ x. x) result ≡ checked_at bytes.now at (λ x. fault_if (leb (2 ^ length.0) x) address_refusal at) }
+    ensures below { IfOk result (λ p. p.0 < 2 ^ length.0) }
+{
+    let (x, next) = number_at(bytes, at)?;
+    if 1u64 << length.0 <= x as u64 {
+        return Err(Refusal::Address(at));
+    }
+    Ok((x, next))
+}
+
+// The hop at a place.
+fn hop_at(bytes: &[u8], at: usize) -> Result<(Hop, usize), Refusal>
+    ensures { reading_by (λ h. h.0) result ≡ checked_at bytes.now at (hop_fault at) }
+{
+    let (h, next) = number_at(bytes, at)?;
+    let hop = Hop(h);
+    rule::hop_check(at, hop)?;
+    Ok((hop, next))
 }
 
 // The address that has the quotient x by the span.
