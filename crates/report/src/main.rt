@@ -9,61 +9,48 @@ ghost use Rattle.history.specs.Reports.{rows};
 ghost use Rattle.report.specs.Lent.{Holds, Printable};
 
 use history::Stage;
-use history::fill::{Filled, fill};
-use std::io::{Read, Write};
+use history::fill::fill;
+use std::io::{self, Read, Write};
 
-// What was read: so many bytes, now at the front of the buffer, or a read failed.
-#[derive(Clone, Copy)]
-enum Input {
-    Bytes(usize),
-    Failed,
-}
-
-// Reads until the input ends or the buffer is full.
-fn read_input<R: Read>(from: &mut R, buffer: &mut [u8]) -> Input
+// Reads until the input ends or the buffer is full: how many bytes were read, which stand at the front
+// of the buffer.
+fn read_input<R: Read>(from: &mut R, buffer: &mut [u8]) -> io::Result<usize>
     ensures { Holds buffer.new result }
 {
     let mut size = 0;
     while size < buffer.len() {
-        match from.read(&mut buffer[size..]) {
-            Err(_) => return Input::Failed,
-            Ok(0) => return Input::Bytes(size),
-            Ok(more) => size += more,
+        match from.read(&mut buffer[size..])? {
+            0 => break,
+            more => size += more,
         }
     }
-    Input::Bytes(size)
+    Ok(size)
 }
 
 // Prints the report of the bytes, part by part. Stops where a part cannot be written.
-fn print_report<W: Write, E: Write>(
+fn print_report<W: Write>(
     to: &mut W,
-    errors: &mut E,
     bytes: &[u8],
     addresses: &mut [u32],
     tags: &mut [u32],
     text: &mut [u8],
-)
+) -> io::Result<()>
     requires { Printable (rows addresses.old tags.old) text.old }
 {
     let mut stage = Stage::start(bytes.len());
     while !stage.is_done() {
-        let Filled::Part(size, next) = fill(bytes, stage, addresses, tags, text) else {
-            return;
+        let Ok(part) = fill(bytes, stage, addresses, tags, text) else {
+            break;
         };
-        if to.write_all(&text[..size]).is_err() {
-            output_failed(errors);
-            return;
-        }
-        stage = next;
+        to.write_all(&text[..part.size])?;
+        stage = part.stage;
     }
+    Ok(())
 }
 
-fn input_failed<E: Write>(errors: &mut E) {
-    let _ = errors.write_all(b"report: standard input cannot be read\n");
-}
-
-fn output_failed<E: Write>(errors: &mut E) {
-    let _ = errors.write_all(b"report: standard output cannot be written\n");
+// Says what failed.
+fn failed<E: Write>(errors: &mut E, what: &[u8]) {
+    let _ = errors.write_all(what);
 }
 
 fn main(rt: HostRuntime) {
@@ -74,14 +61,18 @@ fn main(rt: HostRuntime) {
     let mut text = [0u8; 65536];
     let mut errors = rt.stderr();
     match read_input(&mut rt.stdin(), &mut input) {
-        Input::Failed => input_failed(&mut errors),
-        Input::Bytes(size) => print_report(
-            &mut rt.stdout(),
-            &mut errors,
-            &input[..size],
-            &mut addresses,
-            &mut tags,
-            &mut text,
-        ),
+        Err(_) => failed(&mut errors, b"report: standard input cannot be read\n"),
+        Ok(size) => {
+            let printed = print_report(
+                &mut rt.stdout(),
+                &input[..size],
+                &mut addresses,
+                &mut tags,
+                &mut text,
+            );
+            if printed.is_err() {
+                failed(&mut errors, b"report: standard output cannot be written\n");
+            }
+        }
     }
 }
