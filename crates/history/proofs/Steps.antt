@@ -6,7 +6,7 @@ use lib.Dec.{leb}
 use lib.ListN.{length}
 use borrow.Author.Tests.{lt-ltb, le-ltb, leb-true}
 use Rattle.route.proofs.Tests.{and_parts}
-use Rattle.tcam.specs.Loops.{cell_at}
+use Rattle.tcam.specs.Shown.{cell_at}
 use Rattle.tcam.proofs.Rows.{get_or-cells}
 use Rattle.records.specs.Records.{Update, update, record_at}
 use Rattle.route.specs.Refusals.{Answer}
@@ -16,11 +16,7 @@ use Rattle.history.specs.Stages.{slot_at, step_text}
 use Rattle.history.specs.Steps.{size_of, IsPrinted, Ready, IsStep}
 use Rattle.history.specs.declared.Stage.{Stage}
 use Rattle.history.specs.declared.Stage.TheVariants.{Reading, Listing, Done}
-use Rattle.history.specs.declared.step.Stepped.{Stepped}
 use Rattle.history.proofs.Updates.{line-printed}
-
-abbrev pub stepped : ℕ → Stage → Stepped
-stepped n s = record { size = n; stage = s }
 
 -- a reading stage of these bytes
 pub placed-parts : {bs : List ℕ} {n at : ℕ} {t : Rows} → Ready bs (Reading n at) t → (n ≤ at) × (at ≤ length bs)
@@ -45,13 +41,13 @@ module _ {buffer : List ℕ} {size : ℕ} {buffer' : List ℕ} where
   module _ (slot : ℕ) (t : Rows) where
     pub step-slot : slot < length t.addresses → length t.addresses ≡ length t.tags →
         IsPrinted (slot_text slot (cell_at t.addresses t.tags slot)) buffer size buffer' →
-        IsStep [] (Listing (slot_at slot)) t buffer (stepped size (Listing (slot_at (slot + 1)))) t buffer'
+        IsStep [] (Listing (slot_at slot)) t buffer size (Listing (slot_at (slot + 1))) t buffer'
     step-slot l e p =
         let inside = lt-ltb slot (length t.addresses) l in
         record { stage = rw inside; table = refl; line = rw (inside, get_or-cells t.addresses t.tags slot e l) p }
 
     pub step_end : {a : Answer} → length t.addresses ≤ slot → IsWritten end_line buffer a buffer' → size ≡ size_of a →
-        length (step_text [] (Listing (slot_at slot)) t) ≤ length buffer → IsStep [] (Listing (slot_at slot)) t buffer (stepped size Done) t buffer'
+        length (step_text [] (Listing (slot_at slot)) t) ≤ length buffer → IsStep [] (Listing (slot_at slot)) t buffer size Done t buffer'
     step_end l w s f =
         let past = le-ltb slot (length t.addresses) l in
         record { stage = rw past; table = refl; line = line-printed (rw past) w s f }
