@@ -4,7 +4,9 @@ use mathlib.Core.Option.{Option, none, some}
 use lib.Seq.{sets}
 use Rattle.tcam.specs.Slots.{Cell, max_slots, cells}
 use Rattle.tcam.specs.Plans.{Write, write, first_slot, last_slot, open_after, chain, numbers}
-use Rattle.tcam.specs.Loops.{cell_at, edge, edge_of, lengths_from, length_at, lengths_of, ShorterBy, chain_of, moves, slot_in, EdgesOf}
+use Rattle.tcam.specs.Shown.{cell_at}
+use Rattle.tcam.specs.Loops.{edge, edge_of, lengths_from, moves, EdgesOf}
+use Rattle.tcam.specs.InTurn.{lengths_of, chain_of}
 use Rattle.tcam.specs.declared.plan.Lengths.{Lengths}
 use Rattle.tcam.proofs.Rows.{length-cells, get_or-cells}
 

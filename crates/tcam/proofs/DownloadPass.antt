@@ -5,7 +5,8 @@ use Rattle.route.specs.PrefixOrder.{key_of}
 use Rattle.route.specs.Refusals.{image_refusal}
 use Rattle.tcam.specs.Slots.{Cell, is_free, length_in, keeps_s1}
 use Rattle.tcam.specs.Download.{From, is_to_come, is_ahead, end, refusal, entry_or_end}
-use Rattle.tcam.specs.Loops.{cell_at, far_ahead, IsLeast, IsAheadOf}
+use Rattle.tcam.specs.Shown.{cell_at}
+use Rattle.tcam.specs.Loops.{far_ahead, IsLeast, IsAheadOf}
 use Rattle.route.proofs.Tests.{by_test}
 use Rattle.route.proofs.PrefixOrder.{by_key}
 use Rattle.tcam.proofs.Cells.{used-short}
