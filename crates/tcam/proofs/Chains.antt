@@ -1,12 +1,18 @@
 -- The chain of copies: how many writes it has, and the loops that count and put them.
-use Rattle.std.proofs.Common.{◌≡◌, ℕ, zero, suc, ◌+◌, ◌*◌, ◌<◌, ◌≤◌, Bool, true, false, List, [], ◌∷◌, length, sym, refl, ap, ◌∙◌, arith, length-set}
+use Rattle.std.proofs.Common.{cond, get_or, ◌≡◌, ℕ, zero, suc, ◌+◌, ◌*◌, ◌<◌, ◌≤◌, Bool, true, false, List, [], ◌∷◌, length, sym, refl, ap, ◌∙◌, arith, length-set}
 use mathlib.Core.Option.{Option, none, some}
+use Rattle.std.specs.Prelude.{Option as Optional, None, Some, IfSome}
+use mir.Val.{bool_byte}
+use Rattle.std.specs.Option.{is_some as found}
+use Rattle.route.specs.declared.Slot.{Slot}
+use Rattle.tcam.specs.Shown.{place_of}
 use lib.Seq.{sets}
-use Rattle.tcam.specs.Slots.{Cell, max_slots, cells}
-use Rattle.tcam.specs.Plans.{Write, write, first_slot, last_slot, open_after, chain, numbers}
-use Rattle.tcam.specs.Loops.{cell_at, edge, edge_of, lengths_from, length_at, lengths_of, ShorterBy, chain_of, moves, slot_in, EdgesOf}
+use Rattle.tcam.specs.Slots.{Cell, cells, free, max_slots}
+use Rattle.tcam.specs.Plans.{Write, first_slot, last_slot, open_after, is_some, chain, numbers}
+use Rattle.tcam.specs.Loops.{edge, edge_of, lengths_from, moves}
+use Rattle.tcam.specs.InTurn.{lengths_of, chain_of}
 use Rattle.tcam.specs.declared.plan.Lengths.{Lengths}
-use Rattle.tcam.proofs.Rows.{length-cells, get_or-cells}
+use Rattle.tcam.proofs.Rows.{length-cells}
 
 -- a slot that was found is one of the table's
 first-bound : (p : Cell → Bool) (i s : ℕ) (cs : List Cell) → first_slot p i cs ≡ some s → s < i + length cs
@@ -48,6 +54,12 @@ module _ (up : Bool) (p : Cell → Bool) (ad ts : List ℕ) (e : length ad ≡ l
   pub open-bound : s < length ad → open_after s (edge up p (cells ad ts)) < length ad
   open-bound l = rw (length-cells ad ts e) at (open-within up p (cells ad ts) s (rw (length-cells ad ts e) l))
 
+-- a slot that was found by an edge is in the table
+pub inside-table : (up : Bool) (p : Cell → Bool) (ad ts : List ℕ) → length ad ≡ length ts → (o : Optional Slot) → place_of o ≡ edge up p (cells ad ts) →
+    IfSome o (λ s. s.0 < length ad)
+inside-table up p ad ts e None f = tt
+inside-table up p ad ts e (Some s) f = edge-bound up p ad ts e s.0 f
+
 -- one write for each length with an edge slot, and the last
 pub length-chain : (edge : ℕ → Option ℕ) (cs : List Cell) (ls : List ℕ) (at : ℕ) (c : Cell) → length (chain edge cs ls at c) ≡ moves edge ls + 1
 length-chain edge cs [] at c = refl
@@ -58,70 +70,75 @@ length-chain edge cs (l ∷ ls) at c = go (edge l) refl (λ a. length-chain edge
     go none e ih = rw e (omega (arith, ih at))
     go (some s) e ih = rw e (omega (arith, ih s))
 
--- two edges that agree on the lengths give as many moves
-moves-agree : (f g : ℕ → Option ℕ) (up : Bool) (k l : ℕ) → ((m : ℕ) → m < l + k → f m ≡ g m) → moves f (lengths_from up k l) ≡ moves g (lengths_from up k l)
-moves-agree f g true zero l h = refl
-moves-agree f g true (suc k) l h = rw (h l (omega arith), moves-agree f g true k (l + 1) (λ m i. h m (omega arith)))
-moves-agree f g false zero l h = refl
-moves-agree f g false (suc k) l h = rw (h (l + k) (omega arith), moves-agree f g false k l (λ m i. h m (omega arith)))
-
--- so a chain has one write more than were counted in the row of edge slots
-pub chain_length : {W : ℕ} {cs : List Cell} {row : List ℕ} {m : ℕ} (r : Lengths) → EdgesOf W r.up cs row → r.from.0 + r.count ≤ W + 1 →
-    m ≡ moves (slot_in row) (lengths_of r) → (at : ℕ) (c : Cell) → m + 1 ≡ length (chain_of r cs at c)
-chain_length {cs = cs} r e i f at c =
-    ap (λ (x : ℕ). x + 1) (f ∙ moves-agree _ _ r.up r.count r.from.0 (λ m l. e.of m (omega arith)))
-    ∙ sym (length-chain (edge_of r.up cs) cs (lengths_of r) at c)
+-- so a chain has one write more than were counted
+pub chain_length : {m : ℕ} (r : Lengths) (cs : List Cell) → m ≡ moves (edge_of r.up cs) (lengths_of r) → (at : ℕ) (c : Cell) → m + 1 ≡ length (chain_of r cs at c)
+chain_length r cs f at c = omega (arith, length-chain (edge_of r.up cs) cs (lengths_of r) at c)
 
 -- so many moves were counted, and the lengths that are left give the rest
-pub record CountedMoves (edge : ℕ → Option ℕ) (r₀ r : Lengths) (w : ℕ) : Type 0 where
-  pub within : r.from.0 + r.count ≤ 33
-  pub few : w + r.count ≤ r₀.count
-  pub left : w + moves edge (lengths_of r) ≡ moves edge (lengths_of r₀)
+pub record CountedMoves (edge : ℕ → Option ℕ) (all ls : List ℕ) (w : ℕ) : Type 0 where
+  pub few : w + length ls ≤ length all
+  pub left : w + moves edge ls ≡ moves edge all
+
+-- a length's edge slot, found or not, is one move or none
+pub counted-turn : {edge : ℕ → Option ℕ} {all ls : List ℕ} {l w b : ℕ} → CountedMoves edge all (l ∷ ls) w → (o : Optional Slot) → place_of o ≡ edge l →
+    b ≡ bool_byte (found o) → CountedMoves edge all ls (w + b)
+counted-turn h None e f = record { few = omega (arith, h.few); left = omega (arith, rw (← e) at h.left) }
+counted-turn h (Some s) e f = record { few = omega (arith, h.few); left = omega (arith, rw (← e) at h.left) }
+
+-- as many lengths as were counted
+lengths-counted : (up : Bool) (k l : ℕ) → length (lengths_from up k l) ≡ k
+lengths-counted true zero l = refl
+lengths-counted true (suc k) l = ap suc (lengths-counted true k (l + 1))
+lengths-counted false zero l = refl
+lengths-counted false (suc k) l = ap suc (lengths-counted false k l)
+
+pub length-lengths : (r : Lengths) → length (lengths_of r) ≡ r.count
+length-lengths r = lengths-counted r.up r.count r.from.0
+
+-- the first of lengths in turn
+first-below : (up : Bool) (k l : ℕ) {n : ℕ} {ls : List ℕ} → lengths_from up k l ≡ n ∷ ls → n < l + k
+first-below true zero l e = cc
+first-below true (suc k) l {n} e = let h : l ≡ n = cc in omega arith
+first-below false zero l e = cc
+first-below false (suc k) l {n} e = let h : l + k ≡ n = cc in omega arith
+
+pub first-length : (r : Lengths) {n : ℕ} {ls : List ℕ} → lengths_of r ≡ n ∷ ls → n ≤ 32
+first-length r e = omega (arith, first-below r.up r.count r.from.0 e, r.within)
 
 -- w writes are in the plan; the lengths that are left and the last write give the rest of the row that is wanted, in which the chain
 -- begins at write `start`
-pub record ChainPut (W : ℕ) (ad ts row : List ℕ) (c : Cell) (all : List Write) (start : ℕ) (plan₀ plan : List ℕ) (r : Lengths) (at w : ℕ) : Type 0 where
-  pub equal : length ad ≡ length ts
-  pub few : length ad ≤ max_slots
-  pub edges : EdgesOf W r.up (cells ad ts) row
-  pub within : r.from.0 + r.count ≤ W + 1
-  pub inside : at < length ad
-  pub room : 3 * (start + length all) ≤ length plan₀
+pub record ChainPut (edge : ℕ → Option ℕ) (cs : List Cell) (c : Cell) (all : List Write) (start : ℕ) (plan₀ plan ls : List ℕ) (at w : ℕ) : Type 0 where
+  pub inside : at < length cs
   pub size : length plan ≡ length plan₀
-  pub count : w + length (chain_of r (cells ad ts) at c) ≡ start + length all
-  pub left : sets plan (3 * w) (numbers (chain_of r (cells ad ts) at c)) ≡ sets plan₀ (3 * start) (numbers all)
+  pub count : w + length (chain edge cs ls at c) ≡ start + length all
+  pub left : sets plan (3 * w) (numbers (chain edge cs ls at c)) ≡ sets plan₀ (3 * start) (numbers all)
 
-module _ {W : ℕ} {ad ts row : List ℕ} {c : Cell} {all : List Write} {start : ℕ} {plan₀ plan : List ℕ} {r : Lengths} {at w : ℕ}
-    (h : ChainPut W ad ts row c all start plan₀ plan r at w) where
-  module _ {l : ℕ} (f : l ≡ length_at r.up r.count r.from.0) (b : l < r.from.0 + r.count) {o : Option ℕ} (e : o ≡ slot_in row l) where
-    here : edge_of r.up (cells ad ts) (length_at r.up r.count r.from.0) ≡ o
-    here = sym (e ∙ h.edges.of l (omega (arith, h.within)) ∙ ap (edge_of r.up (cells ad ts)) f)
+pub chain-start : (edge : ℕ → Option ℕ) (cs : List Cell) (c : Cell) (start : ℕ) (plan ls : List ℕ) (at : ℕ) → at < length cs →
+    ChainPut edge cs c (chain edge cs ls at c) start plan plan ls at start
+chain-start edge cs c start plan ls at l = record { inside = l; size = refl; count = refl; left = refl }
 
-    module _ {next : Lengths} (s : ShorterBy r next) where
-      edges-next : EdgesOf W next.up (cells ad ts) row
-      edges-next = rw s.same h.edges
+module _ {edge : ℕ → Option ℕ} {cs : List Cell} {c : Cell} {all : List Write} {start : ℕ} {plan₀ plan ls : List ℕ} {at w : ℕ}
+    (h : ChainPut edge cs c all start plan₀ plan ls at w) where
+  -- the open slot is in the table, and there is room for a write
+  pub chain-room : 3 * (start + length all) ≤ length plan₀ → length cs ≤ max_slots → (3 * w + 3 ≤ length plan) × (at < max_slots)
+  chain-room r l = (omega (arith, h.count, h.size, length-chain edge cs ls at c), omega (arith, h.inside))
 
-      -- its edge entry is in slot t
-      module _ {t : ℕ} (n : o ≡ some t) where
-        pub chain-slot : t < length ad
-        chain-slot = edge-bound r.up _ ad ts h.equal t (sym (here ∙ n))
+-- l is the next length
+module _ {edge : ℕ → Option ℕ} {cs : List Cell} {c : Cell} {all : List Write} {start : ℕ} {plan₀ plan : List ℕ} {l : ℕ} {ls : List ℕ} {at w : ℕ}
+    (h : ChainPut edge cs c all start plan₀ plan (l ∷ ls) at w) where
+  -- it has no edge slot
+  pub chain-pass : edge l ≡ none → ChainPut edge cs c all start plan₀ plan ls at w
+  chain-pass e = record { inside = h.inside; size = h.size; count = rw e at h.count; left = rw e at h.left }
 
-        moved : chain_of r (cells ad ts) at c ≡ write at (cell_at ad ts t) ∷ chain_of next (cells ad ts) t c
-        moved = rw (s.is, here ∙ n, s.same, get_or-cells ad ts t h.equal chain-slot)
-
-        pub chain-turn : {plan' : List ℕ} {d : Cell} → d ≡ cell_at ad ts t → plan' ≡ sets plan (3 * w) (at ∷ d.address ∷ d.tag ∷ []) →
-            ChainPut W ad ts row c all start plan₀ plan' next t (w + 1)
-        chain-turn {plan' = plan'} is g =
-            let three : 3 * (w + 1) ≡ suc (suc (suc (3 * w))) = omega arith in
-            let g' = rw is at g in
-            record {
-              equal = h.equal;
-              few = h.few;
-              edges = edges-next;
-              within = omega (arith, h.within, s.within);
-              inside = chain-slot;
-              room = h.room;
-              size = ap length g ∙ simp length-set h.size;
-              count = omega (arith, rw moved at h.count);
-              left = rw (g', three) (rw moved at h.left);
-            }
+  -- its edge entry is in slot t
+  pub chain-turn : {t : ℕ} {d : Cell} → edge l ≡ some t → t < length cs → d ≡ get_or cs t free → {plan' : List ℕ} →
+      plan' ≡ sets plan (3 * w) (at ∷ d.address ∷ d.tag ∷ []) → ChainPut edge cs c all start plan₀ plan' ls t (w + 1)
+  chain-turn e i is g =
+      let three : 3 * (w + 1) ≡ suc (suc (suc (3 * w))) = omega arith in
+      let g' = rw is at g in
+      record {
+        inside = i;
+        size = ap length g ∙ simp length-set h.size;
+        count = omega (arith, rw e at h.count);
+        left = rw (g', three) (rw e at h.left);
+      }

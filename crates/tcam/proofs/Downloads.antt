@@ -6,7 +6,7 @@ use Rattle.route.specs.Refusals.{image_refusal}
 use Rattle.route.specs.PrefixOrder.{comes_before}
 use Rattle.tcam.specs.Slots.{Cell, cells, length_in, keeps_s1, slot_fault}
 use Rattle.tcam.specs.Download.{From, start, past, is_to_come, is_ahead, sooner, next_in, Next, refusal, entry_or_end, next_unless}
-use Rattle.tcam.specs.Loops.{cell_at}
+use Rattle.tcam.specs.Shown.{cell_at}
 use Rattle.route.proofs.Tests.{by_test, clash, is_false}
 use Rattle.route.proofs.PrefixOrder.{before-trans, before-from}
 use Rattle.tcam.proofs.Rows.{cells_at}

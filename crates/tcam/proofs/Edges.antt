@@ -11,7 +11,8 @@ use borrow.Author.Tests.{eqb-false}
 use Rattle.route.specs.Refusals.{fine}
 use Rattle.tcam.specs.Slots.{Cell, cells, is_free, length_in, keeps_s1, slot_fault}
 use Rattle.tcam.specs.Plans.{first_slot, last_slot, or_else, of_length}
-use Rattle.tcam.specs.Loops.{cell_at, edge, slot_in, as_slot, group_of, EdgesOf, visited}
+use Rattle.tcam.specs.Shown.{cell_at, group_of}
+use Rattle.tcam.specs.Loops.{edge, EdgesOf, visited}
 use Rattle.tcam.proofs.OrElse.{or-else-assoc, or_else_none, or-else-cond}
 use Rattle.tcam.proofs.Rows.{cells_at, get_or-cells}
 use Rattle.tcam.proofs.Cells.{used-short, slot-keeps}

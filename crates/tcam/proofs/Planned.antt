@@ -7,7 +7,8 @@ use Rattle.route.specs.Refusals.{Answer, value, refused, fine, room_refusal, ful
 use Rattle.tcam.specs.Slots.{Cell, is_free, free}
 use Rattle.tcam.specs.Plans.{Write, Planned, refuses, writes, with_room, numbers, IsPlanned, write, chain, remove_by}
 use Rattle.tcam.specs.Plans.{first_slot, last_slot, first_of_length, last_of, rising, falling, or_else, is_some, open_after, set_at, remove_present}
-use Rattle.tcam.specs.Loops.{edge, edge_of, lengths_from, lengths_to, lengths_of, chain_of}
+use Rattle.tcam.specs.Loops.{edge, edge_of, lengths_from, lengths_to}
+use Rattle.tcam.specs.InTurn.{lengths_of, chain_of}
 use Rattle.tcam.specs.declared.plan.Lengths.{Lengths}
 
 pub length-numbers : (ws : List Write) → length (numbers ws) ≡ 3 * length ws

@@ -2,7 +2,7 @@
 use Rattle.std.proofs.Common.{◌≡◌, ℕ, zero, suc, ◌+◌, ◌<◌, ◌≤◌, min, List, [], ◌∷◌, length, get_or, drop, refl, ap, add-one, arith, drop-cons}
 use lib.Seq.{drop-nil}
 use Rattle.tcam.specs.Slots.{cells, free}
-use Rattle.tcam.specs.Loops.{cell_at}
+use Rattle.tcam.specs.Shown.{cell_at}
 
 -- the slots from slot i on begin with slot i
 pub cells-in-both : (ad ts : List ℕ) (i : ℕ) → i < length ad → i < length ts →

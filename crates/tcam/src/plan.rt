@@ -4,16 +4,16 @@
 // slot. Sets and removals, above the pool and below it, are then one chain of copies: for each length
 // between the prefix's and the pool, in turn, its edge entry goes to the open slot, and its own slot is
 // open next. The writes are counted first, so that a row without room for them is left as it was.
-ghost use Rattle.std.specs.Prelude.{◌≡◌, ◌+◌, ◌*◌, ◌<◌, ◌≤◌, [], ◌∷◌, length, if◌then◌else◌, nat_eq, slice_index, MatchOption};
+ghost use Rattle.std.specs.Prelude.{◌≡◌, ◌+◌, ◌*◌, ◌<◌, ◌≤◌, [], ◌∷◌, length, if◌then◌else◌, nat_eq, slice_index, IfSome};
 ghost use Rattle.std.proofs.Math.Option.{none};
 ghost use Rattle.std.proofs.Math.ListN;
 ghost use Rattle.std.proofs.lemmas.List.Edits.{sets};
 ghost use Rattle.route.specs.Refusals.{fine};
 ghost use Rattle.route.specs.Shown.{counted};
-ghost use Rattle.tcam.specs.Slots.{max_slots, cells, slot_fault};
+ghost use Rattle.tcam.specs.Slots.{max_slots, cells, is_free, slot_fault};
 ghost use Rattle.tcam.specs.Plans.{first_slot, of_prefix, remove_by, remove_present, set_at, with_room, write, numbers, plan_set, plan_remove, IsPlanned};
 ghost use Rattle.tcam.specs.Shown.{cell_of, place_of};
-ghost use Rattle.tcam.specs.Loops.{EdgesOf, visited, lengths_to, moves, edge_of, edge_slot, TableRows};
+ghost use Rattle.tcam.specs.Loops.{EdgesOf, visited, lengths_to, moves, edge, edge_of, TableRows};
 
 use crate::image::table_check;
 use crate::slots::{Cell, Group};
@@ -55,29 +55,29 @@ impl Lengths {
             from: Length(n.0 + 1),
         }
     }
+}
 
-    // The group of the first length, and the lengths after it.
-    fn split_first(self) -> Option<(Group, Lengths)>
-        ensures { MatchOption result (lengths_of self ≡ []) (λ p. (lengths_of self ≡ p.0.0 ∷ lengths_of p.1) × (p.0.0 < 33) × (p.1.up ≡ self.up) × (p.1.count < self.count)) }
-    {
+impl Iterator for Lengths {
+    ghost use Rattle.std.specs.Iterator.{YieldsFirstBy, at_most};
+    ghost use Rattle.tcam.specs.InTurn.{lengths_of};
+
+    type Item = Length;
+
+    ghost next_gives = { YieldsFirstBy (λ n. n.0) lengths_of };
+
+    ghost remaining = { λ s. at_most s.count };
+
+    fn next(&mut self) -> Option<Length> {
         if self.count == 0 {
             return None;
         }
-        let rest = self.count - 1;
         let from = self.from;
-        let (first, after) = if self.up {
-            (from, Length(from.0 + 1))
-        } else {
-            (Length(from.0 + rest), from)
-        };
-        Some((
-            Group::of_length(first),
-            Lengths {
-                up: self.up,
-                count: rest,
-                from: after,
-            },
-        ))
+        self.count -= 1;
+        if self.up {
+            self.from = Length(from.0 + 1);
+            return Some(from);
+        }
+        Some(Length(from.0 + self.count))
     }
 }
 
@@ -150,16 +150,30 @@ impl<'a> Chain<'a> {
         }
     }
 
+    // The edge slot of length n.
+    fn edge(&self, n: Length) -> Option<Slot>
+        requires { n.0 ≤ 32 }
+        ensures edge { place_of result ≡ edge_of self.now.lengths.up (cells self.now.table.addresses.now self.now.table.tags.now) n.0 }
+        ensures inside { IfSome result (λ s. s.0 < length self.now.table.addresses.now) }
+    {
+        self.edges[Group::of_length(n).0]
+    }
+
+    // The pool's.
+    fn pool(&self) -> Option<Slot>
+        ensures edge { place_of result ≡ edge self.now.lengths.up is_free (cells self.now.table.addresses.now self.now.table.tags.now) }
+        ensures inside { IfSome result (λ s. s.0 < length self.now.table.addresses.now) }
+    {
+        self.edges[Group::pool().0]
+    }
+
     // How many of the lengths have an edge slot.
     fn moves(&self) -> usize
-        ensures { (result ≡ moves (edge_slot self.now.edges) (lengths_of self.now.lengths)) × (result ≤ self.now.lengths.count) }
+        ensures { (result ≡ moves (edge_of self.now.lengths.up (cells self.now.table.addresses.now self.now.table.tags.now)) (lengths_of self.now.lengths)) × (result ≤ self.now.lengths.count) }
     {
-        let mut left = self.lengths;
         let mut moved = 0;
-        while let Some((g, rest)) = left.split_first() {
-            let edge = self.edges[g.0];
-            moved += usize::from(edge.is_some());
-            left = rest;
+        for n in self.lengths {
+            moved += usize::from(self.edge(n).is_some());
         }
         moved
     }
@@ -170,12 +184,10 @@ impl<'a> Chain<'a> {
         requires last_in_bounds { 3 * (start + length (chain_of self.now.lengths (cells self.now.table.addresses.now self.now.table.tags.now) pool.0 (cell_of last))) ≤ length plan.old }
         ensures { plan.new ≡ sets plan.old (3 * start) (numbers (chain_of self.now.lengths (cells self.now.table.addresses.now self.now.table.tags.now) pool.0 (cell_of last))) }
     {
-        let mut left = self.lengths;
         let mut vacant = pool;
         let mut w = start;
-        while let Some((g, rest)) = left.split_first() {
-            left = rest;
-            if let Some(s) = self.edges[g.0] {
+        for n in self.lengths {
+            if let Some(s) = self.edge(n) {
                 put_write(plan, w, vacant, self.table.cell(s));
                 vacant = s;
                 w += 1;
@@ -224,7 +236,7 @@ fn insert(table: &Table, n: Length, c: Cell, plan: &mut [u32]) -> Result<usize, 
     ensures { IsPlanned (set_at 32 (cells table.now.addresses.now table.now.tags.now) n.0 (cell_of c) (length plan.old) none) plan.old (counted result) plan.new }
 {
     let chain = Chain::to(table, Length(16) <= n, n);
-    match chain.edges[Group::pool().0] {
+    match chain.pool() {
         None => Err(Refusal::Full),
         Some(s) => chain.plan(s, c, plan),
     }
@@ -251,8 +263,7 @@ pub(crate) fn erase(table: &Table, n: Length, s: Slot, plan: &mut [u32]) -> Resu
     ensures { IsPlanned (with_room (length plan.old) fine (remove_present 32 (cells table.now.addresses.now table.now.tags.now) n.0 s.0)) plan.old (counted result) plan.new }
 {
     let chain = Chain::to(table, n < Length(16), n);
-    let edge = chain.edges[Group::of_length(n).0];
-    chain.plan_gap(s, edge.unwrap_or(s), plan)
+    chain.plan_gap(s, chain.edge(n).unwrap_or(s), plan)
 }
 
 // Plans a set: the writes, or refusal 8, 7, 1, 2, 3, 5 or 9, in this order.
