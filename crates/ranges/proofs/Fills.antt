@@ -10,10 +10,9 @@ use Rattle.ranges.specs.Loops.{keys_of}
 pub key-at : (rs : List Route) (i : ℕ) → get_or (keys_of rs) i 0 ≡ key_of (entry_of rs i)
 key-at rs i = get_or-map key_of rs i (route 0 0 0)
 
-pub part_at : (part : Range → ℕ) → part (range_in 0) ≡ 0 → (n : ℕ) (ws : List ℕ) (i : ℕ) → i < n →
-    get_or (map part (ranges_in n ws)) i 0 ≡ part (range_in (get_or ws i 0))
-part_at part z n ws i l =
-    (rw z at (get_or-map part (ranges_in n ws) i (range_in 0))) ∙ ap part (get_or-map range_in (take n ws) i 0 ∙ ap range_in (get_or-take n ws i 0 l))
+pub part_at : (part : Range → ℕ) → part (range_in 0) ≡ 0 → (ws : List ℕ) (i : ℕ) →
+    get_or (map part (map range_in ws)) i 0 ≡ part (range_in (get_or ws i 0))
+part_at part z ws i = (rw z at (get_or-map part (map range_in ws) i (range_in 0))) ∙ ap part (get_or-map range_in ws i 0)
 
 pub keys_length : (rs : List Route) → length (keys_of rs) ≡ length rs
 keys_length rs = length-map rs key_of
@@ -21,5 +20,5 @@ keys_length rs = length-map rs key_of
 pub ranges_in-length : (n : ℕ) (ws : List ℕ) → n ≤ length ws → length (ranges_in n ws) ≡ n
 ranges_in-length n ws l = length-map (take n ws) range_in ∙ length-take-le n ws l
 
-pub parts-length : (part : Range → ℕ) (n : ℕ) (ws : List ℕ) → n ≤ length ws → length (map part (ranges_in n ws)) ≡ n
-parts-length part n ws l = length-map (ranges_in n ws) part ∙ ranges_in-length n ws l
+pub parts-length : (part : Range → ℕ) (ws : List ℕ) → length (map part (map range_in ws)) ≡ length ws
+parts-length part ws = length-map (map range_in ws) part ∙ length-map ws range_in

@@ -8,8 +8,8 @@ use Rattle.std.specs.Ordering.{nat_cmp}
 use Rattle.std.proofs.lemmas.List.Sorted.{IsPermutation-sym, Contains-permutation, IsNonDecreasingBy-drop, IsNonDecreasingBy-from_sort}
 use Rattle.route.specs.Rule.{Route}
 use Rattle.route.specs.PrefixOrder
-use Rattle.route.specs.Refusals.{fine}
-use Rattle.route.specs.Lists.{routes, rows_fault}
+use Rattle.route.specs.Entries.{routes_of}
+use Rattle.route.specs.declared.list.List.{List as InRows}
 use Rattle.route.specs.RightHop.{◌∈◌}
 use Rattle.route.proofs.PrefixOrder.{by_key}
 use Rattle.route.proofs.LongestMatch.{SameSet}
@@ -20,8 +20,7 @@ use Rattle.route.proofs.Members.{each_at}
 use Rattle.ranges.specs.Ranges.{Range, range, ranges_of}
 use Rattle.ranges.specs.Words.{key_of, route_in, routes_in, word_of, range_in}
 use Rattle.ranges.specs.Sweeps.{swept_ranges}
-use Rattle.ranges.specs.Builds.{table_of}
-use Rattle.ranges.specs.Loops.{keys_of}
+use Rattle.ranges.specs.Loops.{keys_of, Tested}
 use Rattle.ranges.proofs.LastMatch.{InOrder, AllInOrder}
 use Rattle.ranges.proofs.Boundaries.{Placed}
 use Rattle.ranges.proofs.RangesAgree.{ranges_same}
@@ -133,9 +132,12 @@ keys_make rs ok placed ks perm up =
         record { address = placed r m; length = omega (arith, v.short); hop = omega (arith, v.small) }
 
 -- the keys of a list that has been tested, sorted: what the sweep makes of them
-pub list-made : (ad ns hs : List ℕ) → rows_fault 32 ad ns hs ≡ fine → ((i : ℕ) → get_or ad i 0 < 4294967296) →
-    {packed keys : List ℕ} → packed ≡ keys_of (routes ad ns hs) → IsPermutation packed keys → IsSorted nat_cmp keys →
-    {t : List Range} → t ≡ swept_ranges 32 (routes_in keys) → t ≡ table_of 32 ad ns hs
-list-made ad ns hs ok small {packed} {keys} is perm up e =
-    let placed = routes-addresses (λ a. a < 4294967296) ad ns hs (each_at (λ a. a < 4294967296) ad small) in
-    e ∙ keys_make (routes ad ns hs) (accepted_set 32 ad ns hs ok) placed keys (rw is at perm) (IsNonDecreasingBy-from_sort (λ x. x) keys up)
+pub list-made : {l : InRows} → Tested l → {packed sorted keys : List ℕ} → packed ≡ keys_of (routes_of l) →
+    IsPermutation packed sorted → IsSorted nat_cmp sorted → keys ≡ sorted →
+    {t : List Range} → t ≡ swept_ranges 32 (routes_in keys) → t ≡ ranges_of 32 (routes_of l)
+list-made {l} tested {packed} {sorted} is perm up same e =
+    let ad = l.addresses.now in
+    let placed = routes-addresses (λ a. a < 4294967296) ad l.lengths.now l.hops.now (each_at (λ a. a < 4294967296) ad tested.small) in
+    e ∙ rw same
+    (keys_make (routes_of l) (accepted_set 32 ad l.lengths.now l.hops.now tested.sound) placed sorted
+    (rw is at perm) (IsNonDecreasingBy-from_sort (λ x. x) sorted up))

@@ -1,10 +1,16 @@
--- A build into rows with room for any table: no refusal but the list's fault.
-use Rattle.std.proofs.Common.{◌≡◌, ltb, ◌||◌, true, ℕ, ◌≤◌, List, length, refl, arith, le-ltb}
+-- A build into rows with room for any table: no refusal but the list's fault. A build by words of the table.
+use Rattle.std.proofs.Common.{◌≡◌, ltb, ◌||◌, true, false, map, sym, ap, ◌∙◌, ℕ, ◌≤◌, List, length, refl, arith, le-ltb}
+use Rattle.route.specs.Entries.{routes_of}
+use Rattle.route.specs.declared.list.List.{List as InRows}
+use Rattle.ranges.specs.Loops.{Tested}
 use Rattle.route.specs.Refusals.{Verdict, fine, fault, value, refused, unless_fault, room_refusal}
 use Rattle.route.specs.Lists.{routes, rows_fault}
 use Rattle.route.proofs.Accepted.{rows_of_set}
 use Rattle.route.proofs.Entries.{routes-length}
-use Rattle.ranges.specs.Ranges.{max_ranges}
+use lib.ListN.{length-map}
+use Rattle.route.specs.Rows.{overwritten}
+use Rattle.ranges.specs.Words.{range_in}
+use Rattle.ranges.specs.Ranges.{max_ranges, ranges_of, starts_of, hops_of}
 use Rattle.ranges.specs.Builds.{table_of, ranges_answer, IsBuilt}
 use Rattle.ranges.proofs.RangesAgree.{ranges_few}
 
@@ -22,7 +28,20 @@ built-roomy W ad ns hs {a} {b} l m = of_fault (rows_fault W ad ns hs) refl
         omega (arith, ranges_few W (routes ad ns hs), routes-length ad ns hs s.equal, s.few) in
         rw (e, le-ltb a (length (table_of W ad ns hs)) (omega arith), le-ltb b (length (table_of W ad ns hs)) (omega arith))
 
--- a list that has no fault, and a row that is too short for its n ranges
-pub built-short : {ad ns hs ss rh : List ℕ} {n : ℕ} → rows_fault 32 ad ns hs ≡ fine → length (table_of 32 ad ns hs) ≡ n →
-    (ltb (length ss) n || ltb (length rh) n) ≡ true → IsBuilt 32 ad ns hs ss rh (refused room_refusal 0) ss rh
-built-short ok e t = record { answers = rw (ok, e, t); starts = rw (ok, e, t); hops = rw (ok, e, t) }
+-- a list that has been tested, and words of its ranges: a row is too short for them, or both are written
+module _ (l : InRows) (ws : List ℕ) (ok : Tested l) (is : map range_in ws ≡ ranges_of 32 (routes_of l)) where
+  many : length (ranges_of 32 (routes_of l)) ≡ length ws
+  many = ap length (sym is) ∙ length-map ws range_in
+
+  pub built-short : {ss rh : List ℕ} → (ltb (length ss) (length ws) || ltb (length rh) (length ws)) ≡ true →
+      IsBuilt 32 l.addresses.now l.lengths.now l.hops.now ss rh (refused room_refusal 0) ss rh
+  built-short t = record { answers = rw (ok.sound, many, t); starts = rw (ok.sound, many, t); hops = rw (ok.sound, many, t) }
+
+  pub built-whole : {ss rh ss' rh' : List ℕ} → (ltb (length ss) (length ws) || ltb (length rh) (length ws)) ≡ false →
+      ss' ≡ overwritten (starts_of (map range_in ws)) ss → rh' ≡ overwritten (hops_of (map range_in ws)) rh →
+      IsBuilt 32 l.addresses.now l.lengths.now l.hops.now ss rh (value (length ws)) ss' rh'
+  built-whole t s h = record {
+    answers = rw (ok.sound, many, t);
+    starts = rw (ok.sound, many, t) (rw is at s);
+    hops = rw (ok.sound, many, t) (rw is at h);
+  }

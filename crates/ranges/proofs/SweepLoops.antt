@@ -1,12 +1,12 @@
--- The sweep's loops, over keys and words: what is still open, and the keys that are left, give what the whole gives.
-use Rattle.std.proofs.Common.{◌≡◌, ℕ, ◌+◌, ◌-◌, ◌*◌, ◌<◌, ◌≤◌, true, List, [], ◌∷◌, length, drop, set, ap, ◌∙◌, arith}
+-- The sweep's loops: what is still open, and the keys that are left, give what the whole gives.
+use Rattle.std.proofs.Common.{◌≡◌, ℕ, ◌+◌, ◌-◌, ◌*◌, ◌<◌, ◌≤◌, true, List, [], ◌∷◌, length, drop, set, sym, ap, ◌∙◌, add-one, arith, drop-cons, drop_of_length-le}
 use Rattle.route.specs.Rule.{Route}
 use Rattle.route.specs.Loops.{before}
 use Rattle.ranges.specs.Ranges.{Range, past_end}
-use Rattle.ranges.specs.Words.{route_in, routes_in, key_at, ranges_in}
+use Rattle.ranges.specs.Words.{route_in, routes_in, key_at}
 use Rattle.ranges.specs.Sweeps.{Sweep, sweep, advanced, ends_by, closed, closed_by, opening, swept}
-use Rattle.ranges.specs.Shown.{sweep_of}
-use Rattle.ranges.specs.declared.sweep.Progress.{Progress}
+use Rattle.ranges.specs.Sweeping.{sweep_of, HasRoom, SameKeys}
+use Rattle.ranges.specs.declared.sweep.Sweep.{Sweep as CodeSweep}
 use Rattle.ranges.proofs.Steps.{before_last, before-set}
 
 module _ (W x : ℕ) (at : ℕ → Route) (n a : ℕ) (t : List Range) (pos : 0 < n) where
@@ -15,44 +15,36 @@ module _ (W x : ℕ) (at : ℕ → Route) (n a : ℕ) (t : List Range) (pos : 0 
   turn s e is = rw (before_last at n pos, e) (ap (λ u. closed W x (before at (n - 1)) u.reached u.made) (rw (before_last at n pos) at is))
 
 -- of the prefixes open at first, those that are left
-pub record ClosingAt (x : ℕ) (keys words₀ words : List ℕ) (p s : Progress) : Type 0 where
-  pub fewer : s.opened ≤ p.opened
-  pub keyed : p.opened ≤ length keys
-  pub room : s.made + s.opened ≤ p.made + p.opened
-  pub fits : p.made + p.opened < length words₀
-  pub size : length words ≡ length words₀
-  pub left : closed_by 32 x (sweep_of s keys words) ≡ closed_by 32 x (sweep_of p keys words₀)
+pub record ClosingAt (x : ℕ) (s₀ s : CodeSweep) : Type 0 where
+  pub same : SameKeys s₀ s
+  pub fewer : s.opened ≤ s₀.opened
+  pub load : s.made + s.opened ≤ s₀.made + s₀.opened
+  pub room : HasRoom s₀
+  pub left : closed_by 32 x (sweep_of s) ≡ closed_by 32 x (sweep_of s₀)
 
-module _ {x : ℕ} {keys words₀ words : List ℕ} {p s : Progress} (h : ClosingAt x keys words₀ words p s) where
-  module _ (pos : 0 < s.opened) {r : Route} (is : r ≡ key_at keys (s.opened - 1)) where
-    pub closing-turn : ends_by 32 x r ≡ true → {y : ℕ} → y ≡ past_end 32 r → {u : Progress} {words' : List ℕ} →
-        sweep_of u keys words' ≡ advanced y (sweep_of s keys words) →
-        (u.opened ≡ s.opened) × (u.made ≤ s.made + 1) × (length words' ≡ length words) →
-        ClosingAt x keys words₀ words' p (record { opened = u.opened - 1; reached = u.reached; made = u.made })
-    closing-turn e past {u} {words'} on bounds = record {
-      fewer = omega (arith, h.fewer, bounds.0);
-      keyed = h.keyed;
-      room = omega (arith, h.room, bounds.0, bounds.1);
-      fits = h.fits;
-      size = bounds.2 ∙ h.size;
-      left = (rw bounds.0
-          (turn 32 x (key_at keys) s.opened s.reached (ranges_in s.made words) pos (sweep_of u keys words') (rw is at e) (rw (past, is) at on)))
+-- the keys before the next one are opened: those that are left give what all of them give
+pub record SweptTo (keys₀ : List ℕ) (s : CodeSweep) : Type 0 where
+  pub room : HasRoom s
+  pub left : swept 32 (sweep_of s) (routes_in (drop s.read s.keys.now)) ≡ swept 32 (sweep [] 0 []) (routes_in keys₀)
+
+-- the sweep u is gone on to the end of the prefix opened last, and t has closed it
+module _ {x : ℕ} {s₀ s u t : CodeSweep} (h : ClosingAt x s₀ s) (on : SameKeys s u) (off : SameKeys u t) where
+  module _ (opened : (u.opened ≡ s.opened) × (u.made ≤ s.made + 1)) (closed : (t.opened ≡ u.opened - 1) × (t.reached ≡ u.reached) × (t.made ≡ u.made)) where
+    pub closing-turn : 0 < s.opened → {r : Route} → r ≡ key_at s.keys.now (s.opened - 1) → ends_by 32 x r ≡ true →
+        {y : ℕ} → y ≡ past_end 32 r → sweep_of u ≡ advanced y (sweep_of s) → t.words.now ≡ u.words.now → ClosingAt x s₀ t
+    closing-turn pos is e past go words = record {
+      same = record { keys = off.keys ∙ on.keys ∙ h.same.keys; read = off.read ∙ on.read ∙ h.same.read; words = off.words ∙ on.words ∙ h.same.words };
+      fewer = omega (arith, h.fewer, opened, closed);
+      load = omega (arith, h.load, opened, closed);
+      room = h.room;
+      left = rw (off.keys, on.keys, closed.0, closed.1, closed.2, words, opened.0)
+          (turn 32 x (key_at s.keys.now) s.opened s.reached (sweep_of s).made pos (sweep_of u) (rw is at e) (rw (past, is) at go))
           ∙ h.left;
     }
 
 -- a key stored behind those that are open, where the sweep has closed prefixes and gone on to its address
-pub opening-key : (keys words : List ℕ) (u : Progress) (s : Sweep) (key : ℕ) → u.opened < length keys →
-    sweep_of u keys words ≡ advanced (route_in key).address (closed_by 32 (route_in key).address s) →
-    sweep_of (record { opened = u.opened + 1; reached = u.reached; made = u.made }) (set keys u.opened key) words ≡ opening 32 s (route_in key)
-opening-key keys words u s key l is =
-    rw (before-set keys u.opened key l) (ap (λ c. sweep (route_in key ∷ c.opened) c.reached c.made) is)
-
--- the keys before key i are opened: those that are left give what all of them give
-pub record SweptTo (keys₀ words₀ keys words : List ℕ) (p : Progress) (i : ℕ) : Type 0 where
-  pub within : i ≤ length keys
-  pub stack : p.opened ≤ i
-  pub room : p.made + p.opened ≤ 2 * i
-  pub fits : 2 * length keys₀ < length words₀
-  pub keyed : length keys ≡ length keys₀
-  pub size : length words ≡ length words₀
-  pub left : swept 32 (sweep_of p keys words) (routes_in (drop i keys)) ≡ swept 32 (sweep [] 0 []) (routes_in keys₀)
+pub opening-key : (u : CodeSweep) (s : Sweep) (key : ℕ) → u.opened < length u.keys.now →
+    sweep_of u ≡ advanced (route_in key).address (closed_by 32 (route_in key).address s) →
+    sweep (before (key_at (set u.keys.now u.opened key)) (u.opened + 1)) u.reached (sweep_of u).made ≡ opening 32 s (route_in key)
+opening-key u s key l is =
+    rw (before-set u.keys.now u.opened key l) (ap (λ c. sweep (route_in key ∷ c.opened) c.reached c.made) is)

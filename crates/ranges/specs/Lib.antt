@@ -7,3 +7,4 @@ pub mod Sweeps
 -- What the code's types show, and what only loops need.
 pub mod Shown
 pub mod Loops
+pub mod Sweeping

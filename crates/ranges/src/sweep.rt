@@ -3,26 +3,29 @@
 // A prefix is open from its address up to its end. Open prefixes are a stack: of those that match an
 // address the one opened last is the longest. The stack stands in the front of the row of keys, whose
 // keys have been read.
-ghost use Rattle.std.specs.Prelude.{◌≡◌, ◌+◌, ◌*◌, ◌<◌, ◌≤◌, length, drop};
+ghost use Rattle.std.specs.Prelude.{◌≡◌, ◌+◌, ◌-◌, ◌*◌, ◌<◌, ◌≤◌, length, drop, map, IfSome, IfNone};
 ghost use Rattle.route.specs.Shown.{hop_number, route_of};
-ghost use Rattle.route.specs.Loops.{before};
-ghost use Rattle.ranges.specs.Ranges.{range, past_end};
-ghost use Rattle.ranges.specs.Words.{key_at, routes_in, ranges_in};
+ghost use Rattle.ranges.specs.Ranges.{past_end};
+ghost use Rattle.ranges.specs.Words.{key_at, routes_in, range_in, ranges_in};
 ghost use Rattle.ranges.specs.Sweeps.{ends_with, joined, open_hop, extended, advanced, ends_by, closed_by, opening, swept_ranges};
-ghost use Rattle.ranges.specs.Shown.{range_of, sweep_of};
 
 use crate::words::{Range, prefix_of, range_of, word_of};
 use route::rule::span_of;
 use route::{Hop, Prefix};
 use std::num::wrapping_add_u32;
 
-// Where a sweep is: how many prefixes are open, the address up to which ranges are made, how many
-// are made.
-#[derive(Clone, Copy)]
-pub struct Progress {
+// A sweep over keys: how many are read, how many of these prefixes are open, the address up to which
+// ranges are made, and how many words of ranges there are.
+#[derive(Drop)]
+pub struct Sweep<'a> {
+    pub keys: &'a mut [u64],
+    pub words: &'a mut [u64],
+    pub read: usize,
     pub opened: usize,
     pub reached: u32,
     pub made: usize,
+    ghost stack: { (opened ≤ read) × (read ≤ length keys.now) },
+    ghost room: { made + opened + 2 * (length keys.now - read) ≤ length words.now },
 }
 
 // One past the last address of a prefix; past the last address of all it is 0.
@@ -34,73 +37,6 @@ fn past_end(p: Prefix) -> u32
     wrapping_add_u32(last, 1)
 }
 
-// The hop of the prefix opened last, none where none is open.
-fn open_hop(keys: &[u64], opened: usize) -> Option<Hop>
-    requires { opened ≤ length keys.now }
-    ensures { hop_number result ≡ open_hop (before (key_at keys.now) opened) }
-{
-    if opened == 0 {
-        return None;
-    }
-    let p = prefix_of(keys[opened - 1]);
-    Hop::new(p.hop.0)
-}
-
-// Whether the last of the ranges has this hop.
-fn ends_with(words: &[u64], made: usize, hop: Option<Hop>) -> bool
-    requires { made ≤ length words.now }
-    ensures { result ≡ ends_with (ranges_in made words.now) (hop_number hop) }
-{
-    if made == 0 {
-        return false;
-    }
-    let last = range_of(words[made - 1]);
-    Hop::number_of(last.hop) == Hop::number_of(hop)
-}
-
-// Adds a range to those made, unless the last of them has its hop: how many there are then.
-fn join(words: &mut [u64], made: usize, r: Range) -> usize
-    requires { (made < length words.old) × (hop_number r.hop < 65536) }
-    ensures upper_bound { (result ≤ made + 1) × (ranges_in result words.new ≡ joined (ranges_in made words.old) (range_of r)) }
-    ensures words_len_unchanged { length words.new ≡ length words.old }
-{
-    if ends_with(words, made, r.hop) {
-        return made;
-    }
-    words[made] = word_of(r);
-    made + 1
-}
-
-// Makes a range that starts where the sweep is, with the hop of the prefix opened last: how many
-// ranges there are then.
-fn extend(keys: &[u64], words: &mut [u64], p: Progress) -> usize
-    requires { (p.opened ≤ length keys.now) × (p.made < length words.old) }
-    ensures upper_bound { (result ≤ p.made + 1) × (ranges_in result words.new ≡ extended (sweep_of p keys.now words.old)) }
-    ensures words_len_unchanged { length words.new ≡ length words.old }
-{
-    let range = Range {
-        start: p.reached,
-        hop: open_hop(keys, p.opened),
-    };
-    join(words, p.made, range)
-}
-
-// On to address x: the addresses passed over are a range.
-fn advance(keys: &[u64], words: &mut [u64], p: Progress, x: u32) -> Progress
-    requires { (p.opened ≤ length keys.now) × (p.made < length words.old) }
-    ensures words_after { sweep_of result keys.now words.new ≡ advanced x (sweep_of p keys.now words.old) }
-    ensures opened_value { (result.opened ≡ p.opened) × (result.made ≤ p.made + 1) × (length words.new ≡ length words.old) }
-{
-    if x <= p.reached {
-        return p;
-    }
-    Progress {
-        opened: p.opened,
-        reached: x,
-        made: extend(keys, words, p),
-    }
-}
-
 // Whether a prefix ends at x or before: where the one past its end is 0 it never does.
 fn ends_by(p: Prefix, x: u32) -> bool
     ensures { result ≡ ends_by 32 x (route_of p) }
@@ -109,73 +45,133 @@ fn ends_by(p: Prefix, x: u32) -> bool
     !(past == 0) & (past <= x)
 }
 
-// Closes the prefixes opened last, while they end by x.
-fn close_by(keys: &[u64], words: &mut [u64], p: Progress, x: u32) -> Progress
-    requires { (p.opened ≤ length keys.now) × (p.made + p.opened < length words.old) }
-    ensures words_after { sweep_of result keys.now words.new ≡ closed_by 32 x (sweep_of p keys.now words.old) }
-    ensures opened_le_opened { (result.opened ≤ p.opened) × (result.made + result.opened ≤ p.made + p.opened) × (length words.new ≡ length words.old) }
-{
-    let mut s = p;
-    while 0 < s.opened {
-        let last = prefix_of(keys[s.opened - 1]);
-        if !ends_by(last, x) {
-            return s;
+impl<'a> Sweep<'a> {
+    ghost use Rattle.ranges.specs.Shown.{range_of};
+    ghost use Rattle.ranges.specs.Sweeping.{sweep_of, HasRoom, Starts, SameKeys};
+
+    // A sweep over these keys.
+    pub(crate) fn new(keys: &'a mut [u64], words: &'a mut [u64]) -> Sweep<'a>
+        requires { 2 * length keys.old < length words.old }
+        ensures starts { Starts result }
+        ensures keys { result.keys.now ≡ keys.old }
+    {
+        Sweep {
+            keys,
+            words,
+            read: 0,
+            opened: 0,
+            reached: 0,
+            made: 0,
         }
-        let at = advance(keys, words, s, past_end(last));
-        s = Progress {
-            opened: at.opened - 1,
-            reached: at.reached,
-            made: at.made,
-        };
     }
-    s
-}
 
-// Opens the prefix of key i: first those that end by its address are closed.
-fn open_next(keys: &mut [u64], words: &mut [u64], p: Progress, i: usize) -> Progress
-    requires { (p.opened ≤ i) × (i < length keys.old) × (p.made + p.opened + 1 < length words.old) }
-    ensures words_after { sweep_of result keys.new words.new ≡ opening 32 (sweep_of p keys.old words.old) (key_at keys.old i) }
-    ensures opened_bound { (result.opened ≤ i + 1) × (result.made + result.opened ≤ p.made + p.opened + 2) }
-    ensures keys_unchanged { (drop (i + 1) keys.new ≡ drop (i + 1) keys.old) × (length keys.new ≡ length keys.old) × (length words.new ≡ length words.old) }
-{
-    let key = keys[i];
-    let next = prefix_of(key);
-    let closed = close_by(keys, words, p, next.address);
-    let at = advance(keys, words, closed, next.address);
-    let open = at.opened;
-    keys[open] = key;
-    Progress {
-        opened: open + 1,
-        reached: at.reached,
-        made: at.made,
+    // The prefix opened last.
+    fn last(&self) -> Option<Prefix>
+        ensures some { IfSome result (λ p. (0 < self.now.opened) × (route_of p ≡ key_at self.now.keys.now (self.now.opened - 1))) }
+        ensures none { IfNone result (self.now.opened ≡ 0) }
+    {
+        if self.opened == 0 {
+            return None;
+        }
+        Some(prefix_of(self.keys[self.opened - 1]))
     }
-}
 
-// Closes every prefix that has an end, and makes the last range: how many there are.
-fn finish(keys: &[u64], words: &mut [u64], p: Progress) -> usize
-    requires { (p.opened ≤ length keys.now) × (p.made + p.opened < length words.old) }
-    ensures words_after { ranges_in result words.new ≡ extended (closed_by 32 4294967295 (sweep_of p keys.now words.old)) }
-    ensures upper_bound { (result ≤ length words.new) × (length words.new ≡ length words.old) }
-{
-    let last = close_by(keys, words, p, 4294967295);
-    extend(keys, words, last)
-}
-
-// The merged ranges of the keys' prefixes, as words: how many there are. The keys are sorted.
-pub(crate) fn sweep_keys(keys: &mut [u64], words: &mut [u64]) -> usize
-    requires { 2 * length keys.old < length words.old }
-    ensures words_after { ranges_in result words.new ≡ swept_ranges 32 (routes_in keys.old) }
-    ensures upper_bound { (result ≤ length words.new) × (length words.new ≡ length words.old) }
-{
-    let mut p = Progress {
-        opened: 0,
-        reached: 0,
-        made: 0,
-    };
-    let mut i = 0;
-    while i < keys.len() {
-        p = open_next(keys, words, p, i);
-        i += 1;
+    // The hop of the prefix opened last, none where none is open.
+    fn open_hop(&self) -> Option<Hop>
+        ensures { hop_number result ≡ open_hop (sweep_of self.now).opened }
+    {
+        match self.last() {
+            None => None,
+            Some(p) => Hop::new(p.hop.0),
+        }
     }
-    finish(keys, words, p)
+
+    // Whether the last of the ranges has this hop.
+    fn ends_with(&self, hop: Option<Hop>) -> bool
+        ensures { result ≡ ends_with (sweep_of self.now).made (hop_number hop) }
+    {
+        if self.made == 0 {
+            return false;
+        }
+        let last = range_of(self.words[self.made - 1]);
+        Hop::number_of(last.hop) == Hop::number_of(hop)
+    }
+
+    // Makes a range that starts where the sweep is, with the hop of the prefix opened last; none where
+    // the last of the ranges has this hop.
+    fn extend(&mut self)
+        requires { HasRoom self.old }
+        ensures made { ranges_in self.new.made self.new.words.now ≡ extended (sweep_of self.old) }
+        ensures same { SameKeys self.old self.new }
+        ensures rest { (self.new.opened ≡ self.old.opened) × (self.new.reached ≡ self.old.reached) × (self.new.made ≤ self.old.made + 1) }
+    {
+        let hop = self.open_hop();
+        if !self.ends_with(hop) {
+            self.words[self.made] = word_of(Range {
+                start: self.reached,
+                hop,
+            });
+            self.made += 1;
+        }
+    }
+
+    // On to address x: the addresses passed over are a range.
+    fn advance(&mut self, x: u32)
+        requires { HasRoom self.old }
+        ensures sweep { sweep_of self.new ≡ advanced x (sweep_of self.old) }
+        ensures same { SameKeys self.old self.new }
+        ensures rest { (self.new.opened ≡ self.old.opened) × (self.new.made ≤ self.old.made + 1) }
+    {
+        if self.reached < x {
+            self.extend();
+            self.reached = x;
+        }
+    }
+
+    // Closes the prefixes opened last, while they end by x.
+    fn close_by(&mut self, x: u32)
+        requires { HasRoom self.old }
+        ensures sweep { sweep_of self.new ≡ closed_by 32 x (sweep_of self.old) }
+        ensures same { SameKeys self.old self.new }
+        ensures rest { (self.new.opened ≤ self.old.opened) × (self.new.made + self.new.opened ≤ self.old.made + self.old.opened) }
+    {
+        while let Some(p) = self.last() {
+            if !ends_by(p, x) {
+                return;
+            }
+            self.advance(past_end(p));
+            self.opened -= 1;
+        }
+    }
+
+    // Opens the prefix of the next key: first those that end by its address are closed.
+    fn open_next(&mut self)
+        requires room { HasRoom self.old }
+        requires left { self.old.read < length self.old.keys.now }
+        ensures sweep { sweep_of self.new ≡ opening 32 (sweep_of self.old) (key_at self.old.keys.now self.old.read) }
+        ensures rest { drop self.new.read self.new.keys.now ≡ drop (self.old.read + 1) self.old.keys.now }
+        ensures read { (self.new.read ≡ self.old.read + 1) × (length self.new.keys.now ≡ length self.old.keys.now) × HasRoom self.new }
+    {
+        let key = self.keys[self.read];
+        let next = prefix_of(key);
+        self.close_by(next.address);
+        self.advance(next.address);
+        self.read += 1;
+        self.keys[self.opened] = key;
+        self.opened += 1;
+    }
+
+    // The words of the merged ranges of the keys' prefixes. The keys are sorted.
+    pub(crate) fn run(mut self) -> &'a [u64]
+        requires { Starts self }
+        ensures { map range_in result.now ≡ swept_ranges 32 (routes_in self.entry.keys.now) }
+    {
+        while self.read < self.keys.len() {
+            self.open_next();
+        }
+        self.close_by(u32::MAX);
+        self.extend();
+        let Sweep { words, made, .. } = self;
+        &words[..made]
+    }
 }

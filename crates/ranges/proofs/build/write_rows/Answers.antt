@@ -1,7 +1,7 @@
 -- The cell at a place is the start, or the hop, of the range that the word there says.
-use Rattle.std.proofs.Common.{ℕ, sym, refl, ap, ◌∙◌, arith, ◌<◌}
+use Rattle.std.proofs.Common.{ℕ, sym, refl, ap, ◌∙◌, ◌<◌, length, arith}
 use Rattle.ranges.specs.Ranges.{Range}
-use Rattle.route.proofs.Fills.{fill-turn, fill_end}
+use Rattle.route.proofs.Fills.{fill_start, fill-turn, fill_end}
 use Rattle.ranges.proofs.Fills.{part_at, parts-length}
 use Rattle.ranges.proofs.build.write_rows.Goals as goal
 
@@ -12,20 +12,19 @@ start r = r.start
 abbrev hop : Range → ℕ
 hop r = r.hop
 
+pub loop-i-init : goal.loop-i-init
+loop-i-init c = (fill_start (omega (arith, parts-length start c.args.words.now)), fill_start (omega (arith, parts-length hop c.args.words.now)))
+
 pub loop-i-preserved : goal.loop-i-preserved
 loop-i-preserved c =
-    let n = c.args.made in
     let ws = c.args.words.now in
-    let more : c.loop-i.i < n = omega arith in
     let is = c.range_of-r.ensures in (
-      fill-turn c.loop-i.invariant.0 (omega (arith, parts-length start n ws c.requires.0)) (ap start is ∙ sym (part_at start refl n ws c.loop-i.i more)),
-      fill-turn c.loop-i.invariant.1 (omega (arith, parts-length hop n ws c.requires.0)) (c.number_of.ensures ∙ ap hop is ∙ sym (part_at hop refl n ws c.loop-i.i more)),
+      fill-turn c.loop-i.invariant.0 (omega (arith, parts-length start ws)) (ap start is ∙ sym (part_at start refl ws c.loop-i.i)),
+      fill-turn c.loop-i.invariant.1 (omega (arith, parts-length hop ws)) (c.number_of.ensures ∙ ap hop is ∙ sym (part_at hop refl ws c.loop-i.i)),
     )
 
 pub returns-clause-starts_after : goal.returns-clause-starts_after
-returns-clause-starts_after c =
-    fill_end c.loop-i.invariant.0 (omega (arith, parts-length start c.args.made c.args.words.now c.requires.0))
+returns-clause-starts_after c = fill_end c.loop-i.invariant.0 (omega (arith, parts-length start c.args.words.now))
 
 pub returns-clause-range_hops_after : goal.returns-clause-range_hops_after
-returns-clause-range_hops_after c =
-    fill_end c.loop-i.invariant.1 (omega (arith, parts-length hop c.args.made c.args.words.now c.requires.0))
+returns-clause-range_hops_after c = fill_end c.loop-i.invariant.1 (omega (arith, parts-length hop c.args.words.now))
