@@ -17,7 +17,7 @@ use Rattle.dxr.specs.Loops.{entries_from, HasRoom, Splittable}
 use Rattle.dxr.specs.Shown.{IsPart, IsStored}
 use Rattle.dxr.specs.declared.build.Part.{Part}
 use Rattle.dxr.specs.declared.chunk.Stored.{Stored}
-use Rattle.dxr.proofs.Rows.{sets_more, sets-front}
+use Rattle.dxr.proofs.Fills.{sets_more, sets-front}
 use Rattle.dxr.proofs.DxrTable.{chunk_there, fit, stands, main_length}
 use Rattle.dxr.proofs.Parts.{part, part-equal, part-some, part-few, chunk_part, alone-words, alone-main}
 

@@ -11,20 +11,20 @@ ghost use Rattle.route.specs.Rows.{overwritten};
 ghost use Rattle.dxr.specs.Dxr.{table_words, table_main};
 ghost use Rattle.dxr.specs.Builds.{IsBuilt};
 ghost use Rattle.dxr.specs.Loops.{LastAt, Splittable, IsSplit};
-ghost use Rattle.dxr.specs.Shown.{IsNext};
+ghost use Rattle.dxr.specs.Shown.{NextIs};
 
 use crate::MAIN_WORDS;
 use crate::chunk::Chunk;
 use crate::rows::Rows;
 use ranges::MAX_RANGES;
 use route::Refusal;
-use std::ops::Range;
 
-// A chunk in which a range starts: its number, and the places of its ranges.
-#[derive(Drop)]
-struct Next {
-    chunk: u32,
-    places: Range<usize>,
+// The next chunk in which a range starts: its number, its ranges, and the place of the last of them.
+#[derive(Clone, Copy)]
+struct Next<'a> {
+    number: u32,
+    chunk: Chunk<'a>,
+    last: usize,
 }
 
 // The last range, from range `from` on, that starts at or before address x.
@@ -40,23 +40,102 @@ fn last_at(starts: &[u32], from: usize, x: u32) -> usize
     starts.len() - 1
 }
 
-impl<'a> Rows<'a> {
-    // The chunk in which the range behind range `from` starts.
-    fn next_chunk(&self, from: usize) -> Option<Next>
-        requires within { from < length self.now.starts.now }
-        requires rising { from + 1 < length self.now.starts.now → get_or self.now.starts.now from 0 ≤ get_or self.now.starts.now (from + 1) 0 / 65536 * 65536 }
-        ensures { IsNext 32 16 self.now.starts.now from result }
-    {
-        if self.len() <= from + 1 {
-            return None;
-        }
-        let chunk = self.starts[from + 1] / 65536;
-        let base = chunk * 65536;
-        let first = last_at(self.starts, from, base);
-        let last = last_at(self.starts, first, base + 65535);
-        Some(Next {
-            chunk,
-            places: first..last + 1,
-        })
+// The chunk in which the range behind range `from` starts.
+fn next_chunk<'a>(rows: &Rows<'a>, from: usize) -> Option<Next<'a>>
+    requires splittable { Splittable 32 16 rows.now.starts.now rows.now.hops.now }
+    requires within { from < length rows.now.starts.now }
+    requires start { from + 1 < length rows.now.starts.now → get_or rows.now.starts.now from 0 ≤ get_or rows.now.starts.now (from + 1) 0 / 65536 * 65536 }
+    ensures { NextIs 32 16 rows.now.starts.now rows.now.hops.now from result }
+{
+    if rows.len() <= from + 1 {
+        return None;
     }
+    let number = rows.starts[from + 1] / 65536;
+    let base = number * 65536;
+    let first = last_at(rows.starts, from, base);
+    let last = last_at(rows.starts, first, base + 65535);
+    Some(Next {
+        number,
+        chunk: Chunk {
+            rows: rows.part(first, last + 1),
+            base,
+        },
+        last,
+    })
+}
+
+// How many range words the table of these ranges has.
+fn count_words(rows: &Rows) -> usize
+    requires { Splittable 32 16 rows.now.starts.now rows.now.hops.now }
+    ensures { result ≡ length (table_words 32 16 (ranges rows.now.starts.now rows.now.hops.now)) }
+{
+    let mut from = 0;
+    let mut count = 0;
+    while let Some(next) = next_chunk(rows, from) {
+        count += next.chunk.main_word(count).words();
+        from = next.last;
+    }
+    count
+}
+
+// Writes the table of these ranges. Up to the next chunk in which a range starts, and behind the last
+// one, a chunk lies in one range and has its hop.
+fn write_table(rows: &Rows, main: &mut [u32], words: &mut [u32])
+    requires splittable { Splittable 32 16 rows.now.starts.now rows.now.hops.now }
+    requires main_len { (length main.old ≡ 65536) × (length (table_words 32 16 (ranges rows.now.starts.now rows.now.hops.now)) ≤ length words.old) }
+    ensures main_after { main.new ≡ overwritten (table_main 32 16 (ranges rows.now.starts.now rows.now.hops.now)) main.old }
+    ensures words_after { words.new ≡ overwritten (table_words 32 16 (ranges rows.now.starts.now rows.now.hops.now)) words.old }
+{
+    let mut from = 0;
+    let mut used = 0;
+    let mut done = 0;
+    while let Some(next) = next_chunk(rows, from) {
+        let place = next.number as usize;
+        main[done..place].fill(rows.hops[from]);
+        let stored = next.chunk.store(words, used);
+        main[place] = stored.word();
+        used += stored.words();
+        from = next.last;
+        done = place + 1;
+    }
+    main[done..].fill(rows.hops[from]);
+}
+
+// The table of ranges of which one can be made: how many range words it has, or refusal 9.
+fn split(rows: &Rows, main: &mut [u32], words: &mut [u32]) -> Result<usize, Refusal>
+    requires { Splittable 32 16 rows.now.starts.now rows.now.hops.now × (length main.old ≡ 65536) }
+    ensures { IsSplit 32 16 (ranges rows.now.starts.now rows.now.hops.now) main.old words.old (counted result) main.new words.new }
+{
+    let count = count_words(rows);
+    if words.len() < count {
+        return Err(Refusal::Room);
+    }
+    write_table(rows, main, words);
+    Ok(count)
+}
+
+// Builds the DXR table of a list in a main table of 65,536 words and in the front of a row of range
+// words: how many of these there are, or refusals 8, for a main table of another size or as of
+// `list::check`, 1 to 4 as of that, or 9 where the row is shorter than that. A refusal leaves both as
+// they were.
+pub fn build(
+    addresses: &[u32],
+    lengths: &[u32],
+    hops: &[u32],
+    main: &mut [u32],
+    words: &mut [u32],
+) -> Result<usize, Refusal>
+    ensures { IsBuilt 32 16 addresses.now lengths.now hops.now main.old words.old (counted result) main.new words.new }
+{
+    if main.len() != MAIN_WORDS {
+        return Err(Refusal::Size);
+    }
+    let mut starts = [0; MAX_RANGES];
+    let mut range_hops = [0; MAX_RANGES];
+    let n = ranges::build::build(addresses, lengths, hops, &mut starts, &mut range_hops)?;
+    let rows = Rows {
+        starts: &starts[..n],
+        hops: &range_hops[..n],
+    };
+    split(&rows, main, words)
 }

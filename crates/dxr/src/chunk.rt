@@ -5,10 +5,9 @@
 ghost use Rattle.std.specs.Prelude.{◌≡◌, true, ◌-◌, ◌≤◌, ◌<◌, length, get_or};
 ghost use Rattle.ranges.specs.Ranges.{range};
 ghost use Rattle.ranges.specs.Shown.{range_of};
-ghost use Rattle.ranges.specs.Loops.{range_at};
-ghost use Rattle.dxr.specs.Dxr.{fits_short, all_short, short_entry, long_entry, encoded, words, main_word, part_length};
-ghost use Rattle.dxr.specs.Loops.{entry_from, Encodable, HasRoom};
-ghost use Rattle.dxr.specs.Shown.{is_short_form, word_of, words_of, Sound, IsStored};
+ghost use Rattle.dxr.specs.Dxr.{fits_short, all_short, short_entry, encoded, part_length};
+ghost use Rattle.dxr.specs.Loops.{Encodable, HasRoom};
+ghost use Rattle.dxr.specs.Shown.{is_short_form, IsMain, IsStored};
 
 use crate::main_word::{Form, MainWord, Part};
 use crate::rows::Rows;
@@ -30,12 +29,20 @@ fn fits_short(e: Range) -> bool
 }
 
 impl<'a> Chunk<'a> {
-    ghost use Rattle.dxr.specs.Chunks.{entries_of};
+    ghost use Rattle.dxr.specs.Chunks.{entries_in};
 
-    // Entry i of a chunk.
+    // How many entries it has.
+    fn len(&self) -> usize
+        ensures ranges { result ≡ length self.now.rows.starts.now }
+        ensures entries { result ≡ length (entries_in self.now) }
+    {
+        self.rows.len()
+    }
+
+    // Entry i.
     fn entry(&self, i: usize) -> Range
         requires { i < length self.now.rows.starts.now }
-        ensures { range_of result ≡ entry_from self.now.base (range_at self.now.rows.starts.now self.now.rows.hops.now i) }
+        ensures { range_of result ≡ get_or (entries_in self.now) i (range 0 0) }
     {
         Range {
             start: self.rows.starts[i].saturating_sub(self.base),
@@ -45,9 +52,9 @@ impl<'a> Chunk<'a> {
 
     // The form of its entries: short where all of them fit 16 bits.
     fn form(&self) -> Form
-        ensures { is_short_form result ≡ all_short (entries_of self.now) }
+        ensures { is_short_form result ≡ all_short (entries_in self.now) }
     {
-        for i in 0..self.rows.len() {
+        for i in 0..self.len() {
             if !fits_short(self.entry(i)) {
                 return Form::Long;
             }
@@ -57,12 +64,10 @@ impl<'a> Chunk<'a> {
 
     // Its main word, where its range words have this position.
     pub(crate) fn main_word(&self, position: usize) -> MainWord
-        requires { (0 < length self.now.rows.starts.now) × (length self.now.rows.starts.now < 16384) × (position < 65536) × Fits (entries_of self.now) }
-        ensures main { word_of result ≡ main_word (entries_of self.now) position }
-        ensures many { words_of result ≡ length (words (entries_of self.now)) }
-        ensures sound { Sound result }
+        requires { (0 < length (entries_in self.now)) × (length (entries_in self.now) < 16384) }
+        ensures { IsMain (entries_in self.now) position result }
     {
-        let count = self.rows.len();
+        let count = self.len();
         if count == 1 {
             return MainWord::Direct(Hop::new(self.rows.hops[0]));
         }
@@ -75,10 +80,10 @@ impl<'a> Chunk<'a> {
 
     // The 16 bits of short entry i, 0 behind the last.
     fn short_half(&self, i: usize) -> u32
-        requires { Encodable true (entries_of self.now) }
-        ensures { (result ≡ short_entry (get_or (entries_of self.now) i (range 0 0))) × (result < 65536) }
+        requires { Encodable true (entries_in self.now) }
+        ensures { (result ≡ short_entry (get_or (entries_in self.now) i (range 0 0))) × (result < 65536) }
     {
-        if i < self.rows.len() {
+        if i < self.len() {
             let e = self.entry(i);
             e.start / 256 * 256 + Hop::number_of(e.hop)
         } else {
@@ -88,9 +93,9 @@ impl<'a> Chunk<'a> {
 
     // Range word k, in the one form or the other.
     fn word(&self, form: Form, k: usize) -> u32
-        requires encodable { Encodable (is_short_form form) (entries_of self.now) }
-        requires k_bound { k < part_length (is_short_form form) (length self.now.rows.starts.now) }
-        ensures { result ≡ get_or (encoded (is_short_form form) (entries_of self.now)) k 0 }
+        requires encodable { Encodable (is_short_form form) (entries_in self.now) }
+        requires k_bound { k < part_length (is_short_form form) (length (entries_in self.now)) }
+        ensures { result ≡ get_or (encoded (is_short_form form) (entries_in self.now)) k 0 }
     {
         match form {
             Form::Short => {
@@ -106,9 +111,9 @@ impl<'a> Chunk<'a> {
 
     // Writes the range words.
     fn put_words(&self, form: Form, part: &mut [u32])
-        requires encodable { Encodable (is_short_form form) (entries_of self.now) }
-        requires part_len { length part.old ≡ part_length (is_short_form form) (length self.now.rows.starts.now) }
-        ensures { part.new ≡ encoded (is_short_form form) (entries_of self.now) }
+        requires encodable { Encodable (is_short_form form) (entries_in self.now) }
+        requires part_len { length part.old ≡ part_length (is_short_form form) (length (entries_in self.now)) }
+        ensures { part.new ≡ encoded (is_short_form form) (entries_in self.now) }
     {
         for k in 0..part.len() {
             part[k] = self.word(form, k);
@@ -117,8 +122,8 @@ impl<'a> Chunk<'a> {
 
     // Stores the chunk: its range words go behind those that are used.
     pub(crate) fn store(&self, words: &mut [u32], used: usize) -> MainWord
-        requires { HasRoom (entries_of self.now) words.old used }
-        ensures { IsStored (entries_of self.now) used words.old result words.new }
+        requires { HasRoom (entries_in self.now) words.old used }
+        ensures { IsStored (entries_in self.now) used words.old result words.new }
     {
         let main = self.main_word(used);
         if let MainWord::Pointer(p) = main {
