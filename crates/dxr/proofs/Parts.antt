@@ -68,6 +68,10 @@ module _ (b l : ℕ) where
       rw (le-leb r.start b le', le-ltb b r.start le', count)
       (part_is r.hop (suc r.start) rs i j s.1 m' (last_shift r rs j k) (omega arith))
 
+-- the last range that starts at or before y comes behind range i, where the one behind that does
+pub last_later : {y : ℕ} {ss : List ℕ} {j : ℕ} (i : ℕ) → LastAt y ss j → i ≤ j → i + 1 < length ss → get_or ss (i + 1) 0 ≤ y → i < j
+last_later i k le l s = grind arith
+
 -- the part of both rows that makes the entries of chunk c
 abbrev pub part : ℕ → ℕ → List ℕ → List ℕ
 part i j row = take (j + 1 - i) (drop i row)
