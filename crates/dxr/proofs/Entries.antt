@@ -1,14 +1,17 @@
 -- The entries that a chunk's ranges make, and their words, by place; whether all are short; what is stored of them.
 use Prim.Native.Nat.{ℕ, zero, suc, ◌+◌, ◌-◌, ◌*◌, ◌%◌, ◌≤◌, ◌<◌}
 use mathlib.Core.Path.{◌≡◌, refl, sym, ◌∙◌, ap}
-use mathlib.Core.Bool.{Bool, true}
+use mathlib.Core.Bool.{Bool, true, ◌&&◌}
 use mathlib.Core.List.{List, [], ◌∷◌}
 use native.Mathlib.Omega.{arith}
 use borrow.Rule.Slice.PartMut.{put_mid}
-use lib.ListN.{length, get_or, drop, length-map, get_or-map, get_or-eq_default}
+use native.Mathlib.Numerals.{add-one}
+use lib.ListN.{length, get_or, take, drop, length-drop, length-map, get_or-map, get_or-eq_default}
 use lib.Dec.{eqb, leb}
-use lib.Seq.{sets}
+use lib.Seq.{sets, drop-cons, length-take-le}
+use Rattle.std.specs.Prelude.{Option}
 use Rattle.route.specs.Limits.{max_hop}
+use Rattle.route.specs.declared.Hop.{Hop}
 use Rattle.route.proofs.Tests.{orders, and_parts, all_three}
 use Rattle.ranges.specs.Ranges.{Range, range, ranges}
 use Rattle.ranges.specs.Loops.{range_at}
@@ -16,10 +19,12 @@ use Rattle.ranges.proofs.Rows.{ranges-length, ranges-get}
 use Rattle.dxr.specs.Dxr.{fits_short, all_short, long_entry, long_words, short_entry, short_words, encoded, words, pointer, main_word}
 use Rattle.dxr.specs.Dxr.{part_length}
 use Rattle.dxr.specs.Loops.{entry_from, entries_from, Fits, Encodable, HasRoom}
-use Rattle.dxr.specs.Shown.{IsStored}
-use Rattle.dxr.specs.declared.chunk.Stored.{Stored}
+use Rattle.dxr.specs.Shown.{is_short_form, word_of, words_of, Sound, IsMain, IsStored}
+use Rattle.dxr.specs.declared.main_word.MainWord.{MainWord}
+use Rattle.dxr.specs.declared.main_word.MainWord.TheVariants.{Direct, Pointer}
+use Rattle.dxr.specs.declared.main_word.Part.{Part}
 use Rattle.dxr.proofs.ChunkWords.{encoded_length}
-use Rattle.dxr.proofs.Rows.{put-sets}
+use Rattle.dxr.proofs.Fills.{put-sets}
 
 module _ (b : ℕ) (ss hs : List ℕ) (e : length ss ≡ length hs) where
   pub entries-length : length (entries_from b ss hs) ≡ length ss
@@ -42,22 +47,9 @@ short-at [] i e = omega arith
 short-at (r ∷ rs) zero e = let h = all_three (eqb (r.start % 256) 0) (leb r.hop 255) _ e in omega orders
 short-at (r ∷ rs) (suc i) e = short-at rs i (and_parts (fits_short r) _ e).1
 
--- entry i of a chunk that can be encoded: its place among the entries, and that it fits
-module _ {form : Bool} {b : ℕ} {ss hs : List ℕ} (h : Encodable form b ss hs) (i : ℕ) where
-  module _ {r : Range} (is : r ≡ entry_from b (range_at ss hs i)) where
-    pub entry-is : r ≡ get_or (entries_from b ss hs) i (range 0 0)
-    entry-is = is ∙ sym (entries-get b ss hs h.equal i)
-
-    pub entry-fits : (r.start < 65536) × (r.hop ≤ max_hop)
-    entry-fits = rw entry-is (fits-at (entries_from b ss hs) i h.fits)
-
-    pub entry-short : form ≡ true → r.hop ≤ 255
-    entry-short e = rw entry-is (short-at (entries_from b ss hs) i (h.suits e))
-
-  -- behind the last entry is none, and its bits are 0
-  pub entry-none : length ss ≤ i → 0 ≡ short_entry (get_or (entries_from b ss hs) i (range 0 0))
-  entry-none l =
-      rw (get_or-eq_default (entries_from b ss hs) (range 0 0) {n = i} (rw (entries-length b ss hs h.equal) l))
+-- the bits of an entry behind the last are 0
+pub entry-none : (es : List Range) (i : ℕ) → length es ≤ i → 0 ≡ short_entry (get_or es i (range 0 0))
+entry-none es i l = rw (get_or-eq_default es (range 0 0) {n = i} l)
 
 -- the words of entries
 pub long-get : (es : List Range) (k : ℕ) → get_or (long_words es) k 0 ≡ long_entry (get_or es k (range 0 0))
@@ -100,70 +92,55 @@ many-main [] p l = absurd (omega arith)
 many-main (r ∷ []) p l = absurd (omega arith)
 many-main (r ∷ s ∷ rs) p l = refl
 
--- as many words as the form takes
-pub encoded-size : {form : Bool} {b : ℕ} {ss hs : List ℕ} → Encodable form b ss hs →
-    length (encoded form (entries_from b ss hs)) ≡ part_length form (length ss)
-encoded-size {form} {b} {ss} {hs} h = encoded_length form (entries_from b ss hs) ∙ ap (part_length form) (entries-length b ss hs h.equal)
+-- the main word of some entries: its number, how many words it points to, and that its parts have room
+pub main-number : (es : List Range) (at : ℕ) (m : MainWord) → IsMain es at m → word_of m ≡ main_word es at
+main-number es at (Direct h) i = i.1 ∙ sym (one-main es at i.0)
+main-number es at (Pointer p) i = rw (i.1, i.2, i.3) (sym (many-main es at i.0))
 
--- how many words a chunk has
-module _ (b : ℕ) (ss hs : List ℕ) (e : length ss ≡ length hs) where
-  abbrev es : List Range
-  es = entries_from b ss hs
+pub main-many : (es : List Range) (at : ℕ) (m : MainWord) → IsMain es at m → words_of m ≡ length (words es)
+main-many es at (Direct h) i = rw (one-words es i.0)
+main-many es at (Pointer p) i = rw (i.1, i.2, many-words es i.0, encoded_length (all_short es) es)
 
-  none : length ss ≡ 1 → words es ≡ []
-  none l = one-words es (entries-length b ss hs e ∙ l)
+pub main-sound : (es : List Range) (at : ℕ) (m : MainWord) → length es < 16384 → at < 65536 → IsMain es at m → Sound m
+main-sound es at (Direct h) few low i = tt
+main-sound es at (Pointer p) few low i = (omega arith, omega arith)
 
-  pub count-one : length ss ≡ 1 → 0 ≡ length (words es)
-  count-one l = sym (ap length (none l))
+-- entries of a chunk that are stored: nothing but a main word, or their words in a part of the row
+module _ {es : List Range} {ws : List ℕ} {used : ℕ} (h : HasRoom es ws used) where
+  pub stored-one : (hop : Option Hop) → IsMain es used (Direct hop) → IsStored es used ws (Direct hop) ws
+  stored-one hop i = record { main = i; row = rw (one-words es i.0) }
 
-  module _ (l : 1 < length ss) {form : Bool} (is : form ≡ all_short es) where
-    some : words es ≡ encoded form es
-    some = rw is (many-words es (rw (entries-length b ss hs e) l))
+  module _ (p : Part) (i : IsMain es used (Pointer p)) where
+    some : words es ≡ encoded (is_short_form p.form) es
+    some = rw i.1 (many-words es i.0)
 
-    pub count-many : {n : ℕ} → n ≡ part_length form (length ss) → n ≡ length (words es)
-    count-many m = m ∙ rw (some, encoded_length form es, entries-length b ss hs e)
+    pub stored-form : Encodable (is_short_form p.form) es
+    stored-form = record { fits = h.fits; few = h.few; suits = λ t. sym i.1 ∙ t }
 
--- a chunk that is stored: nothing but a main word, or its words in a part of the row
-module _ {b : ℕ} {ss hs ws : List ℕ} {used : ℕ} (h : HasRoom b ss hs ws used) where
-  pub stored_one : length ss ≡ 1 → {s : Stored} → s.word ≡ get_or hs 0 0 → s.used ≡ used → IsStored (entries_from b ss hs) used ws s ws
-  stored_one l {s} first same =
-      let nothing = none b ss hs h.equal l in
-      record {
-        main = first
-            ∙ sym (one-main (entries_from b ss hs) used (entries-length b ss hs h.equal ∙ l) ∙ ap (λ r. r.hop) (entries-get b ss hs h.equal 0));
-        next = rw nothing (same ∙ omega arith);
-        row = rw nothing;
-      }
+    module _ {n : ℕ} (many : n ≡ part_length (is_short_form p.form) p.count) where
+      size : length (encoded (is_short_form p.form) es) ≡ n
+      size = encoded_length (is_short_form p.form) es ∙ ap (part_length (is_short_form p.form)) (sym i.2) ∙ sym many
 
-  module _ (l : 1 < length ss) {form : Bool} (is : form ≡ all_short (entries_from b ss hs)) {n : ℕ} (many : n ≡ part_length form (length ss)) where
-    pub stored-form : Encodable form b ss hs
-    stored-form = record { equal = h.equal; fits = h.fits; suits = λ e. sym is ∙ e }
+      pub stored-end : used + n ≤ length ws
+      stored-end = omega (arith, size, ap length some, h.room)
 
-    pub stored-end : used + n ≤ length ws
-    stored-end = omega (arith, count-many b ss hs h.equal l is many, h.room)
+      part-many : used + n - used ≡ n
+      part-many = omega arith
 
-    part-many : used + n - used ≡ n
-    part-many = omega arith
+      -- their part of the row
+      pub stored-size : length (take (used + n - used) (drop used ws)) ≡ part_length (is_short_form p.form) (length es)
+      stored-size =
+          length-take-le (used + n - used) (drop used ws) (simp length-drop (omega (arith, stored-end)))
+          ∙ part-many
+          ∙ many
+          ∙ ap (part_length (is_short_form p.form)) i.2
 
-    -- put back, they are the words written behind those that are used
-    in_place : put_mid used (used + n - used) ws (encoded form (entries_from b ss hs)) ≡ sets ws used (encoded form (entries_from b ss hs))
-    in_place =
-        rw part-many
-        (put-sets ws (encoded form (entries_from b ss hs)) used n (encoded-size stored-form ∙ sym many) stored-end)
+      -- put back, they are the words written behind those that are used
+      pub stored-many : {part : List ℕ} → part ≡ encoded (is_short_form p.form) es →
+          IsStored es used ws (Pointer p) (put_mid used (used + n - used) ws part)
+      stored-many put = record { main = i; row = rw (put, some, part-many) (put-sets ws (encoded (is_short_form p.form) es) used n size stored-end) }
 
-    pub stored-many : {s : Stored} → s.word ≡ pointer form (length ss) used → s.used ≡ used + n → {part : List ℕ} →
-        part ≡ encoded form (entries_from b ss hs) →
-        IsStored (entries_from b ss hs) used ws s (put_mid used (used + n - used) ws part)
-    stored-many {s} word next {part} put =
-        let size = entries-length b ss hs h.equal in
-        let count = count-many b ss hs h.equal l is many in
-        record {
-          main = word ∙ (rw (is, ← size) (sym (many-main (entries_from b ss hs) used (rw size l))));
-          next = next ∙ ap (λ k. used + k) count;
-          row = rw (put, some b ss hs h.equal l is) in_place;
-        }
-
--- the entries before entry i are short: those from it on decide
-pub record ShortTo (b : ℕ) (ss hs : List ℕ) (i : ℕ) : Type 0 where
-  pub equal : length ss ≡ length hs
-  pub left : all_short (entries_from b (drop i ss) (drop i hs)) ≡ all_short (entries_from b ss hs)
+-- where all entries before entry i are short, it and those behind it decide
+pub short-turn : (es : List Range) (i : ℕ) → i < length es → all_short (drop i es) ≡ all_short es → {r : Range} → r ≡ get_or es i (range 0 0) →
+    (fits_short r && all_short (drop (i + 1) es)) ≡ all_short es
+short-turn es i l h is = rw (is, add-one) (rw (drop-cons es i (range 0 0) l) at h)

@@ -11,7 +11,7 @@ pub mod DxrAgrees
 -- The lookup's pass over a part.
 pub mod Scans
 -- The build: rows written in parts, a chunk's entries, a chunk's part of the ranges, the passes over the ranges, what is left in the end.
-pub mod Rows
+pub mod Fills
 pub mod Entries
 pub mod Parts
 pub mod Passes

@@ -15,7 +15,6 @@ use Rattle.ranges.proofs.Counting.{StartsRise}
 use Rattle.dxr.specs.Dxr.{chunk_size, inside, chunk, words, main_word}
 use Rattle.dxr.specs.Loops.{LastAt, entry_from, entries_from, Splittable}
 use Rattle.dxr.specs.Shown.{IsPart}
-use Rattle.dxr.specs.declared.build.Part.{Part}
 use Rattle.dxr.proofs.Rising.{rise_from, early, fine-rises}
 use Rattle.dxr.proofs.Chunks.{inside_none}
 use Rattle.dxr.proofs.Entries.{entries-length, entries-get, one-words, one-main}
@@ -69,67 +68,54 @@ module _ (b l : ℕ) where
       rw (le-leb r.start b le', le-ltb b r.start le', count)
       (part_is r.hop (suc r.start) rs i j s.1 m' (last_shift r rs j k) (omega arith))
 
+-- the last range that starts at or before y comes behind range i, where the one behind that does
+pub last_later : {y : ℕ} {ss : List ℕ} {j : ℕ} (i : ℕ) → LastAt y ss j → i ≤ j → i + 1 < length ss → get_or ss (i + 1) 0 ≤ y → i < j
+last_later i k le l s = grind arith
+
 -- the part of both rows that makes the entries of chunk c
-module _ {W S c : ℕ} {ss : List ℕ} {p : Part} (is : IsPart W S c ss p) where
-  abbrev pub part : List ℕ → List ℕ
-  part row = take (p.end - p.first) (drop p.first row)
+abbrev pub part : ℕ → ℕ → List ℕ → List ℕ
+part i j row = take (j + 1 - i) (drop i row)
 
-  module _ {hs : List ℕ} (rows : Splittable W S ss hs) where
-    -- it lies in both rows
-    pub part_lies : (p.first ≤ p.end) × (p.end ≤ length ss) × (p.end ≤ length hs)
-    part_lies =
-        let e : p.end ≤ length ss = omega (arith, is.some, is.last.within) in
-        (omega (arith, is.some), e, omega (arith, rows.equal))
-
-    size : (row : List ℕ) → p.end ≤ length row → length (part row) ≡ p.end - p.first
-    size row l = length-take-le (p.end - p.first) (drop p.first row) (simp length-drop (omega (arith, is.some)))
-
-    pub part-equal : length (part ss) ≡ length (part hs)
-    part-equal = size ss part_lies.1 ∙ sym (size hs part_lies.2)
-
-    pub part-some : 0 < length (part ss)
-    part-some = omega (arith, size ss part_lies.1, is.some)
-
-    pub part-few : length (part ss) < 16384
-    part-few = omega (arith, size ss part_lies.1, part_lies, rows.few)
-
-    pub chunk_part : chunk W S (ranges ss hs) c ≡ entries_from (c * chunk_size W S) (part ss) (part hs)
-    chunk_part =
-        let b = c * chunk_size W S in
-        let l = b + (chunk_size W S - 1) in
-        let n = p.end - p.first in
-        let past : (c + 1) * chunk_size W S ≡ l + 1 = omega (arith, pow_pos (W - S)) in
-        let count : p.end - 1 + 1 - p.first ≡ n = omega (arith, is.some) in
-        rw (past, take_says n (drop p.first ss) (drop p.first hs), drop_says p.first ss hs, ← count)
-        (part_is b l 0 0 (ranges ss hs) p.first (p.end - 1) (fine-rises (ranges ss hs) rows.rules).rise
-        (rw (starts_say ss hs rows.equal) is.first) (rw (starts_say ss hs rows.equal) is.last) (omega (arith, is.some)))
+module _ {W S c : ℕ} {ss hs : List ℕ} {i j : ℕ} (is : IsPart W S c ss i j) (rows : Splittable W S ss hs) where
+  pub chunk_part : entries_from (c * chunk_size W S) (part i j ss) (part i j hs) ≡ chunk W S (ranges ss hs) c
+  chunk_part =
+      let b = c * chunk_size W S in
+      let l = b + (chunk_size W S - 1) in
+      let past : (c + 1) * chunk_size W S ≡ l + 1 = omega (arith, pow_pos (W - S)) in
+      rw (past, take_says (j + 1 - i) (drop i ss) (drop i hs), drop_says i ss hs)
+      (sym (part_is b l 0 0 (ranges ss hs) i j (fine-rises (ranges ss hs) rows.rules).rise
+      (rw (starts_say ss hs rows.equal) is.start) (rw (starts_say ss hs rows.equal) is.stop) is.some))
 
 -- a chunk of one range: it has no words, and its main word is the range's hop
 module _ {W S : ℕ} {ss hs : List ℕ} (rows : Splittable W S ss hs) (from c : ℕ) (within : from < length ss)
     (start : get_or ss from 0 ≤ c * chunk_size W S) (next : from + 1 < length ss → (c + 1) * chunk_size W S ≤ get_or ss (from + 1) 0) where
-  alone : IsPart W S c ss (record { first = from; end = from + 1 })
-  alone =
-      let e : from + 1 - 1 ≡ from = omega arith in
-      record {
-        some = omega arith;
-        first = record { within = within; start = start; next = λ l. omega (arith, next l, pow_pos (W - S)) };
-        last = rw e (record { within = within; start = omega arith; next = λ l. omega (arith, next l, pow_pos (W - S)) });
-      }
+  alone : IsPart W S c ss from from
+  alone = record {
+    some = omega arith;
+    start = record { within = within; start = start; next = λ l. omega (arith, next l, pow_pos (W - S)) };
+    stop = record { within = within; start = omega arith; next = λ l. omega (arith, next l, pow_pos (W - S)) };
+  }
 
   abbrev entry : List Range
-  entry = entries_from (c * chunk_size W S) (part alone ss) (part alone hs)
+  entry = entries_from (c * chunk_size W S) (part from from ss) (part from from hs)
+
+  size : (row : List ℕ) → from < length row → length (part from from row) ≡ 1
+  size row l = length-take-le (from + 1 - from) (drop from row) (simp length-drop (omega arith)) ∙ omega arith
+
+  equal : length (part from from ss) ≡ length (part from from hs)
+  equal = size ss within ∙ sym (size hs (omega (arith, rows.equal)))
 
   one_entry : length entry ≡ 1
-  one_entry = entries-length (c * chunk_size W S) (part alone ss) (part alone hs) (part-equal alone rows) ∙ size alone rows ss (omega arith) ∙ omega arith
+  one_entry = entries-length (c * chunk_size W S) (part from from ss) (part from from hs) equal ∙ size ss within
 
   pub alone-words : words (chunk W S (ranges ss hs) c) ≡ []
-  alone-words = rw (chunk_part alone rows) (one-words entry one_entry)
+  alone-words = rw (← chunk_part alone rows) (one-words entry one_entry)
 
   pub alone-main : (position : ℕ) → main_word (chunk W S (ranges ss hs) c) position ≡ get_or hs from 0
   alone-main position =
-      rw (chunk_part alone rows)
+      rw (← chunk_part alone rows)
       (one-main entry position one_entry
-      ∙ ap (λ r. r.hop) (entries-get (c * chunk_size W S) (part alone ss) (part alone hs) (part-equal alone rows) 0)
+      ∙ ap (λ r. r.hop) (entries-get (c * chunk_size W S) (part from from ss) (part from from hs) equal 0)
       ∙ get_or-take (from + 1 - from) (drop from hs) 0 0 (omega arith)
       ∙ get_or-drop from hs 0 0
       ∙ ap (λ i. get_or hs i 0) (add-zero from))

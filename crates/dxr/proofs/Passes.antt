@@ -4,22 +4,27 @@ use Prim.Native.Nat.{ℕ, zero, suc, ◌+◌, ◌-◌, ◌*◌, ◌/◌, ◌^◌
 use mathlib.Core.Path.{◌≡◌, sym, ◌∙◌, ap}
 use mathlib.Core.List.{List, [], ◌∷◌, ◌++◌, append-nil, append_assoc}
 use native.Mathlib.Omega.{arith}
-use native.Mathlib.Nat.{add-zero, div-add-mod', le-div_iff_mul-le}
+use native.Mathlib.Nat.{add-zero, div-add-mod', le-div_iff_mul-le, mul-le-mul_right}
 use native.Mathlib.Numerals.{add-one}
-use lib.ListN.{length, get_or, set, replicate, length-append, replicate-append-replicate}
+use borrow.Rule.Slice.PartMut.{put_mid}
+use lib.ListN.{length, get_or, take, drop, set, replicate, length-append, replicate-append-replicate}
 use lib.Pow.{pow_pos}
 use lib.Seq.{length-sets, sets}
 use Rattle.ranges.specs.Ranges.{Range, ranges}
 use Rattle.route.specs.Rows.{overwritten}
 use Rattle.dxr.specs.Dxr.{chunk_size, chunk, words, main_word, all_words, main_words, table_words, table_main}
 use Rattle.dxr.specs.Splits.{Split}
-use Rattle.dxr.specs.Loops.{entries_from, HasRoom, Splittable}
-use Rattle.dxr.specs.Shown.{IsPart, IsStored}
-use Rattle.dxr.specs.declared.build.Part.{Part}
-use Rattle.dxr.specs.declared.chunk.Stored.{Stored}
-use Rattle.dxr.proofs.Rows.{sets_more, sets-front}
+use Rattle.dxr.specs.Loops.{HasRoom, Splittable}
+use Rattle.dxr.specs.Shown.{word_of, words_of, Sound, IsMain, IsNext, IsStored}
+use Rattle.dxr.specs.Chunks.{entries_in}
+use Rattle.dxr.specs.declared.build.Next.{Next}
+use Rattle.dxr.specs.declared.main_word.MainWord.{MainWord}
+use Rattle.dxr.proofs.Fills.{sets_more, sets-front, filled-part}
 use Rattle.dxr.proofs.DxrTable.{chunk_there, fit, stands, main_length}
-use Rattle.dxr.proofs.Parts.{part, part-equal, part-some, part-few, chunk_part, alone-words, alone-main}
+use Rattle.ranges.proofs.Rows.{ranges-length}
+use Rattle.dxr.proofs.Chunks.{chunk_few}
+use Rattle.dxr.proofs.Entries.{main-number, main-many, main-sound}
+use Rattle.dxr.proofs.Parts.{alone-words, alone-main}
 
 -- chunk c is next: range `from` starts at or before its first address, and those behind it start there or later
 pub record ReachedTo (W S : ℕ) (ss hs : List ℕ) (from c : ℕ) : Type 0 where
@@ -38,19 +43,9 @@ module _ {W S : ℕ} {ss hs : List ℕ} {from c : ℕ} (h : ReachedTo W S ss hs 
   abbrev pub Free : ℕ → Type 0
   Free d = from + 1 < length ss → d * chunk_size W S ≤ get_or ss (from + 1) 0
 
-  -- the chunk in which the next range starts
-  module _ (split : Split W S) (l : from + 1 < length ss) (small : get_or ss (from + 1) 0 < 2 ^ W) where
-    abbrev next_chunk : ℕ
-    next_chunk = get_or ss (from + 1) 0 / chunk_size W S
-
-    pub next-later : c ≤ next_chunk
-    next-later = (le-div_iff_mul-le (pow_pos (W - S))).1 (h.next l)
-
-    pub next-there : next_chunk < 2 ^ S
-    next-there = chunk_there W S (get_or ss (from + 1) 0) split small
-
-    pub next-free : Free next_chunk
-    next-free m = omega (arith, div-add-mod' (get_or ss (from + 1) 0) (chunk_size W S))
+  -- it does not start before chunk c
+  pub next-start : from + 1 < length ss → get_or ss from 0 ≤ get_or ss (from + 1) 0 / chunk_size W S * chunk_size W S
+  next-start l = omega (arith, h.start, mul-le-mul_right (chunk_size W S) ((le-div_iff_mul-le (pow_pos (W - S))).1 (h.next l)))
 
   free_at : (k : ℕ) → Free (c + suc k) → Free (c + k + 1)
   free_at k f l = let e : c + suc k ≡ c + k + 1 = omega arith in rw e at (f l)
@@ -88,26 +83,36 @@ module _ {W S : ℕ} {ss hs : List ℕ} {from c : ℕ} (h : ReachedTo W S ss hs 
     pub skip-reached : d ≤ 2 ^ S → ReachedTo W S ss hs from d
     skip-reached l = record { rows = h.rows; upto = l; within = h.within; start = rw many at (below (d - c)); next = f }
 
--- chunk c and its ranges
-module _ {W S : ℕ} {ss hs : List ℕ} {from c : ℕ} (h : ReachedTo W S ss hs from c) (l : c < 2 ^ S) {p : Part} (is : IsPart W S c ss p) where
-  abbrev es : List Range
-  es = entries_from (c * chunk_size W S) (part is ss) (part is hs)
+-- the next chunk in which a range starts
+module _ {W S : ℕ} {ss hs : List ℕ} {from c : ℕ} (h : ReachedTo W S ss hs from c) {n : Next} (is : IsNext W S ss hs from n) where
+  next-later : c ≤ n.number
+  next-later = rw is.is ((le-div_iff_mul-le (pow_pos (W - S))).1 (h.next is.more))
 
-  next_words : all_words W S (ranges ss hs) (c + 1) ≡ all_words W S (ranges ss hs) c ++ words es
-  next_words = rw (add-one, ← chunk_part is h.rows)
+  next-free : Free h n.number
+  next-free m = rw is.is (omega (arith, div-add-mod' (get_or ss (from + 1) 0) (chunk_size W S)))
 
-  next_main : {used : ℕ} → used ≡ length (all_words W S (ranges ss hs) c) →
-      main_words W S (ranges ss hs) (c + 1) ≡ main_words W S (ranges ss hs) c ++ (main_word es used ∷ [])
-  next_main e = rw (add-one, chunk_part is h.rows, e)
-
-  reached-turn : ReachedTo W S ss hs (p.end - 1) (c + 1)
+  reached-turn : ReachedTo W S ss hs n.last (n.number + 1)
   reached-turn = record {
     rows = h.rows;
-    upto = omega arith;
-    within = is.last.within;
-    start = omega (arith, is.last.start, pow_pos (W - S));
-    next = λ m. omega (arith, is.last.next m, pow_pos (W - S));
+    upto = omega (arith, is.there);
+    within = is.stop.within;
+    start = omega (arith, is.stop.start, pow_pos (W - S));
+    next = λ m. omega (arith, is.stop.next m, pow_pos (W - S));
   }
+
+  -- it has few entries, and at least one
+  pub next-some : 0 < length (entries_in n.chunk)
+  next-some = rw is.entries (omega arith)
+
+  pub next-few : length (entries_in n.chunk) < 16384
+  next-few = rw is.entries (omega (arith, chunk_few W S (ranges ss hs) n.number, ranges-length ss hs h.rows.equal, h.rows.few))
+
+  next_words : all_words W S (ranges ss hs) (n.number + 1) ≡ all_words W S (ranges ss hs) n.number ++ words (entries_in n.chunk)
+  next_words = rw (add-one, is.entries)
+
+  next_main : {used : ℕ} → used ≡ length (all_words W S (ranges ss hs) n.number) →
+      main_words W S (ranges ss hs) (n.number + 1) ≡ main_words W S (ranges ss hs) n.number ++ (main_word (entries_in n.chunk) used ∷ [])
+  next_main e = rw (add-one, is.entries, e)
 
 -- so many words in the chunks before chunk c
 pub record CountedTo (W S : ℕ) (ss hs : List ℕ) (from sum c : ℕ) : Type 0 where
@@ -119,15 +124,22 @@ module _ {W S : ℕ} {ss hs : List ℕ} {from sum c : ℕ} (h : CountedTo W S ss
   pub count-skip : {d : ℕ} → c ≤ d → d ≤ 2 ^ S → Free h.reached d → CountedTo W S ss hs from sum d
   count-skip le up f = record { reached = skip-reached h.reached le f up; count = rw (skip-words h.reached le f) h.count }
 
-  module _ (l : c < 2 ^ S) {p : Part} (is : IsPart W S c ss p) {n : ℕ} (more : n ≡ length (words (es h.reached l is))) where
-    next : sum + n ≡ length (all_words W S (ranges ss hs) (c + 1))
-    next = rw (next_words h.reached l is, length-append, h.count, more)
+  module _ {n : Next} (is : IsNext W S ss hs from n) (m : MainWord) (main : IsMain (entries_in n.chunk) sum m) where
+    -- at the next chunk in which a range starts
+    counted-there : CountedTo W S ss hs from sum n.number
+    counted-there = count-skip (next-later h.reached is) (omega (arith, is.there)) (next-free h.reached is)
 
-    pub count_turn : CountedTo W S ss hs (p.end - 1) (sum + n) (c + 1)
-    count_turn = record { reached = reached-turn h.reached l is; count = next }
+    pub count-sound : Sound m
+    count-sound = main-sound _ sum m (next-few h.reached is) (rw h.count (h.reached.rows.low c)) main
 
-    pub count_low : sum + n < 65536
-    count_low = omega (arith, next, h.reached.rows.low (c + 1))
+    next : sum + words_of m ≡ length (all_words W S (ranges ss hs) (n.number + 1))
+    next = rw (next_words h.reached is, length-append, main-many _ sum m main, ← counted-there.count)
+
+    pub count_turn : CountedTo W S ss hs n.last (sum + words_of m) (n.number + 1)
+    count_turn = record { reached = reached-turn h.reached is; count = next }
+
+    pub count_low : sum + words_of m < 65536
+    count_low = omega (arith, next, h.reached.rows.low (n.number + 1))
 
   -- behind the last range no chunk has words
   pub count-end : length ss ≤ from + 1 → sum ≡ length (table_words W S (ranges ss hs))
@@ -144,7 +156,10 @@ pub record WrittenTo (W S : ℕ) (ss hs ms₀ ws₀ ms ws : List ℕ) (from used
   pub words : ws ≡ sets ws₀ 0 (all_words W S (ranges ss hs) c)
 
 module _ {W S : ℕ} {ss hs ms₀ ws₀ ms ws : List ℕ} {from used c : ℕ} (h : WrittenTo W S ss hs ms₀ ws₀ ms ws from used c) where
-  -- the row of words keeps its length
+  -- the rows keep their lengths
+  main-length : length ms ≡ 2 ^ S
+  main-length = rw (h.main, length-sets) h.size
+
   pub words-length : length ws ≡ length ws₀
   words-length = rw (h.words, length-sets)
 
@@ -163,38 +178,51 @@ module _ {W S : ℕ} {ss hs ms₀ ws₀ ms ws : List ℕ} {from used c : ℕ} (h
   }
 
   -- behind the last range all have
-  pub written-rest : length ss ≤ from + 1 → {ms' : List ℕ} → ms' ≡ sets ms c (replicate (2 ^ S - c) (get_or hs from 0)) →
-      WrittenTo W S ss hs ms₀ ws₀ ms' ws from used (2 ^ S)
-  written-rest l is = written-skip h.reached.upto (omega arith) (λ m. absurd (omega arith)) is
+  pub written-rest : length ss ≤ from + 1 → {part : List ℕ} → part ≡ replicate (length (take (length ms - c) (drop c ms))) (get_or hs from 0) →
+      WrittenTo W S ss hs ms₀ ws₀ (put_mid c (length ms - c) ms part) ws from used (2 ^ S)
+  written-rest l {part} filled =
+      written-skip h.reached.upto (omega arith) (λ m. absurd (omega arith))
+      (rw (← main-length) (filled-part ms part c (length ms - c) (get_or hs from 0) (omega (arith, main-length, h.reached.upto)) filled))
 
-  module _ (l : c < 2 ^ S) (split : Split W S) {p : Part} (is : IsPart W S c ss p) where
-    pub written-room : HasRoom (c * chunk_size W S) (part is ss) (part is hs) ws used
+  -- up to the next chunk in which a range starts
+  module _ {n : Next} (is : IsNext W S ss hs from n) {part : List ℕ}
+      (filled : part ≡ replicate (length (take (n.number - c) (drop c ms))) (get_or hs from 0)) where
+    here : WrittenTo W S ss hs ms₀ ws₀ (put_mid c (n.number - c) ms part) ws from used n.number
+    here =
+        written-skip (next-later h.reached is) (omega (arith, is.there)) (next-free h.reached is)
+        (filled-part ms part c (n.number - c) (get_or hs from 0) (omega (arith, main-length, next-later h.reached is, is.there)) filled)
+
+    pub written-room : Split W S → HasRoom (entries_in n.chunk) ws used
     unfolding table_words
-    written-room =
-        let s = stands W S (ranges ss hs) (2 ^ S) c l in
-        let whole = ap length s.1 ∙ length-append (all_words W S (ranges ss hs) c) (words (chunk W S (ranges ss hs) c) ++ s.0) in
-        let behind = length-append (words (chunk W S (ranges ss hs) c)) s.0 in
+    written-room split =
+        let t = ranges ss hs in
+        let c = n.number in
+        let s = stands W S t (2 ^ S) c is.there in
+        let whole = ap length s.1 ∙ length-append (all_words W S t c) (words (chunk W S t c) ++ s.0) in
+        let behind = length-append (words (chunk W S t c)) s.0 in
         record {
-          equal = part-equal is h.reached.rows;
-          fits = rw (← chunk_part is h.reached.rows) (fit W S split (ranges ss hs) h.reached.rows.rules c);
-          some = part-some is h.reached.rows;
-          few = part-few is h.reached.rows;
-          low = rw h.count (h.reached.rows.low c);
-          room = rw (← chunk_part is h.reached.rows) (omega (arith, h.room, h.count, words-length));
+          fits = rw is.entries (fit W S split t h.reached.rows.rules c);
+          some = next-some h.reached is;
+          few = next-few h.reached is;
+          low = rw here.count (h.reached.rows.low c);
+          room = rw is.entries (omega (arith, h.room, here.count, words-length));
         }
 
-    pub written-turn : {s : Stored} {ws' : List ℕ} → IsStored (es h.reached l is) used ws s ws' →
-        WrittenTo W S ss hs ms₀ ws₀ (set ms c s.word) ws' (p.end - 1) s.used (c + 1)
-    written-turn put = record {
-      reached = reached-turn h.reached l is;
-      size = h.size;
-      room = h.room;
-      count = put.next ∙ rw (next_words h.reached l is, length-append, ← h.count);
-      main = rw (h.main, put.main, next_main h.reached l is h.count)
-          (sets_more ms₀ (main_words W S (ranges ss hs) c) _ (sym (main_length W S (ranges ss hs) c)));
-      words = put.row
-          ∙ rw (h.words, next_words h.reached l is) (sets_more ws₀ (all_words W S (ranges ss hs) c) (words (es h.reached l is)) h.count);
-    }
+    module _ (m : MainWord) {ws' : List ℕ} (put : IsStored (entries_in n.chunk) used ws m ws') where
+      pub written-sound : Sound m
+      written-sound = main-sound _ used m (next-few h.reached is) (rw here.count (h.reached.rows.low n.number)) put.main
+
+      pub written-turn : WrittenTo W S ss hs ms₀ ws₀ (set (put_mid c (n.number - c) ms part) n.number (word_of m)) ws' n.last (used + words_of m) (n.number + 1)
+      written-turn = record {
+        reached = reached-turn h.reached is;
+        size = h.size;
+        room = h.room;
+        count = rw (main-many _ used m put.main, next_words h.reached is, length-append, ← here.count);
+        main = rw (here.main, main-number _ used m put.main, next_main h.reached is here.count)
+            (sets_more ms₀ (main_words W S (ranges ss hs) n.number) _ (sym (main_length W S (ranges ss hs) n.number)));
+        words = put.row
+            ∙ rw (here.words, next_words h.reached is) (sets_more ws₀ (all_words W S (ranges ss hs) n.number) (words (entries_in n.chunk)) here.count);
+      }
 
 -- all chunks are written
 pub written-end : {W S : ℕ} {ss hs ms₀ ws₀ ms ws : List ℕ} {from used : ℕ} → WrittenTo W S ss hs ms₀ ws₀ ms ws from used (2 ^ S) →

@@ -4,4 +4,5 @@ pub mod Splits
 pub mod Builds
 -- What the code's types show, and what only loops need.
 pub mod Loops
+pub mod Chunks
 pub mod Shown

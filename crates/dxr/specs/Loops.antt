@@ -45,20 +45,19 @@ abbrev pub Fits : List Range → Type 0
 Fits [] = Unit {0}
 Fits (r ∷ rs) = (r.start < 65536) × (r.hop ≤ max_hop) × Fits rs
 
--- ranges of a chunk, the entries of which have room in the form
-pub record Encodable (form : Bool) (b : ℕ) (ss hs : List ℕ) : Type 0 where
-  pub equal : length ss ≡ length hs
-  pub fits : Fits (entries_from b ss hs)
-  pub suits : form ≡ true → all_short (entries_from b ss hs) ≡ true
+-- entries that have room in the form, few enough for a count
+pub record Encodable (form : Bool) (es : List Range) : Type 0 where
+  pub fits : Fits es
+  pub few : length es < 16384
+  pub suits : form ≡ true → all_short es ≡ true
 
--- ranges of a chunk, with room for its words behind those that are used
-pub record HasRoom (b : ℕ) (ss hs ws : List ℕ) (used : ℕ) : Type 0 where
-  pub equal : length ss ≡ length hs
-  pub fits : Fits (entries_from b ss hs)
-  pub some : 0 < length ss
-  pub few : length ss < 16384
+-- entries of a chunk, with room for their words behind those that are used
+pub record HasRoom (es : List Range) (ws : List ℕ) (used : ℕ) : Type 0 where
+  pub fits : Fits es
+  pub some : 0 < length es
+  pub few : length es < 16384
   pub low : used < 65536
-  pub room : used + length (words (entries_from b ss hs)) ≤ length ws
+  pub room : used + length (words es) ≤ length ws
 
 -- rows of ranges of which a DXR table can be made: they keep the rules, and are few enough for the counts and positions of main words
 pub record Splittable (W S : ℕ) (ss hs : List ℕ) : Type 0 where

@@ -8,11 +8,8 @@
 pub mod build;
 pub mod chunk;
 pub mod lookup;
-
-use route::Counted;
+pub mod main_word;
+pub mod rows;
 
 // The words of a main table: one for each chunk.
 pub const MAIN_WORDS: usize = 65536;
-
-// What a build answers: how many range words there are, or the refusal.
-pub type Built = Counted;

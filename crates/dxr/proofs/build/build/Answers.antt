@@ -10,17 +10,17 @@ use Rattle.dxr.proofs.build.build.Goals as goal
 roomy : max_ranges ≤ 8193
 roomy = omega arith
 
-pub returns-in-Refused : goal.returns-in-Refused
-returns-in-Refused c = built-refused c.if-main-ne-MAIN_WORDS.false (made_fault roomy roomy c.build.ensures (ap counted c.in-Refused.is))
+pub returns-in_err-n : goal.returns-in_err-n
+returns-in_err-n c = built-refused c.if-main-ne-MAIN_WORDS.false (made_fault roomy roomy c.build.ensures (ap counted c.in_err-n.was))
 
 pub split-requires : goal.split-requires
 split-requires c = (
-  made-splittable roomy roomy c.build.ensures (ap counted c.in-Count.is) 16 split-16 (λ i. (c.type_inv.addresses i).fits),
+  made-splittable roomy roomy c.build.ensures (ap counted c.in_ok-n.was) 16 split-16 (λ i. (c.type_inv.addresses i).fits),
   c.if-main-ne-MAIN_WORDS.false,
 )
 
-pub returns-in-Count : goal.returns-in-Count
-returns-in-Count c =
-    let e = ap counted c.in-Count.is in
+pub returns : goal.returns
+returns c =
+    let e = ap counted c.in_ok-n.was in
     built-split c.if-main-ne-MAIN_WORDS.false (made-fine roomy roomy c.build.ensures e)
     (rw (made_table roomy roomy c.build.ensures e) at c.split.ensures)

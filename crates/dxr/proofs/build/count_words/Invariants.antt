@@ -4,8 +4,8 @@ use lib.ListN.{length}
 use Rattle.dxr.proofs.Passes.{CountedTo}
 use Rattle.dxr.proofs.build.count_words.Given as goal
 
-abbrev pub invariant-loop-from : goal.invariant-loop-from
-invariant-loop-from l = (c : ℕ) × CountedTo 32 16 l.starts l.hops l.from l.count c
+abbrev pub invariant-loop-next : goal.invariant-loop-next
+invariant-loop-next l = (c : ℕ) × CountedTo 32 16 l.rows.starts.now l.rows.hops.now l.from l.count c
 
-abbrev pub decreases-loop-from : goal.decreases-loop-from
-decreases-loop-from l = length l.starts - l.from
+abbrev pub decreases-loop-next : goal.decreases-loop-next
+decreases-loop-next l = length l.rows.starts.now - l.from

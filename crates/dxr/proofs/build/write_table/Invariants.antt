@@ -4,8 +4,8 @@ use lib.ListN.{length}
 use Rattle.dxr.proofs.Passes.{WrittenTo}
 use Rattle.dxr.proofs.build.write_table.Given as goal
 
-abbrev pub invariant-loop-from : goal.invariant-loop-from
-invariant-loop-from l = WrittenTo 32 16 l.starts l.hops l.initial.main l.initial.words l.main l.words l.from l.used l.done
+abbrev pub invariant-loop-next : goal.invariant-loop-next
+invariant-loop-next l = WrittenTo 32 16 l.rows.starts.now l.rows.hops.now l.initial.main l.initial.words l.main l.words l.from l.used l.done
 
-abbrev pub decreases-loop-from : goal.decreases-loop-from
-decreases-loop-from l = length l.starts - l.from
+abbrev pub decreases-loop-next : goal.decreases-loop-next
+decreases-loop-next l = length l.rows.starts.now - l.from

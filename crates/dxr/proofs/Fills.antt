@@ -1,13 +1,12 @@
--- Rows of numbers written in parts, and filled with one number.
+-- Rows of numbers written in parts, and parts filled with one number.
 use Prim.Native.Nat.{ℕ, suc, ◌+◌, ◌-◌, ◌≤◌, ◌<◌}
 use mathlib.Core.Path.{◌≡◌, sym}
 use mathlib.Core.List.{List, ◌++◌, append_assoc}
 use native.Mathlib.Omega.{arith}
 use native.Mathlib.Nat.{zero-add}
 use borrow.Rule.Slice.PartMut.{put_mid}
-use native.Mathlib.Numerals.{add-one}
-use lib.ListN.{length, take, drop, set, replicate, length-set}
-use lib.Seq.{drop-drop, sets, sets-eq}
+use lib.ListN.{length, take, drop, replicate, length-replicate, length-drop}
+use lib.Seq.{drop-drop, sets, sets-eq, length-take-le}
 use Rattle.route.specs.Rows.{overwritten}
 use Rattle.route.proofs.Parts.{sets-append}
 
@@ -24,14 +23,9 @@ sets_more row xs ys e = rw e (sym (rw zero-add at (sets-append row 0 xs ys)))
 pub sets-front : (xs row : List ℕ) → length xs ≤ length row → sets row 0 xs ≡ overwritten xs row
 sets-front xs row l = rw zero-add at (sets-eq xs row 0 (omega arith))
 
--- a row filled with one number up to place i: the rest, filled, gives the row that is wanted
-pub record FilledUpTo (number to : ℕ) (row₀ : List ℕ) (from : ℕ) (row : List ℕ) (i : ℕ) : Type 0 where
-  pub within : i ≤ to
-  pub size : length row ≡ length row₀
-  pub left : sets row i (replicate (to - i) number) ≡ sets row₀ from (replicate (to - from) number)
-
-module _ {number to : ℕ} {row₀ : List ℕ} {from : ℕ} {row : List ℕ} {i : ℕ} (h : FilledUpTo number to row₀ from row i) where
-  pub filled-turn : i < to → FilledUpTo number to row₀ from (set row i number) (i + 1)
-  filled-turn l =
-      let more : to - i ≡ suc (to - suc i) = omega arith in
-      record { within = omega arith; size = simp length-set h.size; left = rw add-one (rw more at h.left) }
+-- a part filled with one number
+pub filled-part : (row part : List ℕ) (at n v : ℕ) → at + n ≤ length row → part ≡ replicate (length (take n (drop at row))) v →
+    put_mid at n row part ≡ sets row at (replicate n v)
+filled-part row part at n v l is =
+    let size : length (take n (drop at row)) ≡ n = length-take-le n (drop at row) (simp length-drop (omega arith)) in
+    rw (is, size) (put-sets row (replicate n v) at n (length-replicate n v) l)

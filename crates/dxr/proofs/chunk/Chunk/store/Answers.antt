@@ -1,0 +1,26 @@
+-- Nothing but the hop, or the chunk's words behind those that are used.
+use Rattle.std.proofs.Common.{◌∙◌, sym, ap, arith, rules}
+use Rattle.dxr.specs.Shown.{is_short_form}
+use Rattle.dxr.specs.Chunks.{entries_in}
+use Rattle.dxr.specs.Dxr.{part_length}
+use Rattle.dxr.proofs.Entries.{stored-one, stored-form, stored-end, stored-size, stored-many}
+use Rattle.dxr.proofs.chunk.Chunk.store.Goals as goal
+
+pub slice_bounds-put_words-end : goal.slice_bounds-put_words-end
+slice_bounds-put_words-end c =
+    let l = stored-end c.requires c.in-Pointer.p c.in-Pointer.ensures c.words.ensures.length in
+    search rules
+
+pub put_words-requires : goal.put_words-requires
+put_words-requires c =
+    record {
+      encodable = stored-form c.requires c.in-Pointer.p c.in-Pointer.ensures;
+      part_len = stored-size c.requires c.in-Pointer.p c.in-Pointer.ensures c.words.ensures.length;
+    }
+
+pub returns-in-Pointer : goal.returns-in-Pointer
+returns-in-Pointer c =
+    stored-many c.requires c.in-Pointer.p c.in-Pointer.ensures c.words.ensures.length c.put_words.ensures
+
+pub returns-in_default : goal.returns-in_default
+returns-in_default c = rw c.in_default.is (stored-one c.requires c.in_default.field-0 c.in_default.ensures)
