@@ -1,4 +1,3 @@
 -- Texts put one behind the other, the digits of a number, how long each text is.
-pub mod Puts
 pub mod Digits
 pub mod Sizes
