@@ -101,6 +101,8 @@ fn text_line(text: &str, out: &mut [u8]) -> Result<usize, Refusal>
 }
 
 // An update that was made, with its word.
+//
+// The numbers stay parameters: a struct of them would be built for one call and taken apart in it.
 fn update(
     nth: usize,
     word: &str,
