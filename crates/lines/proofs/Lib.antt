@@ -1,3 +1,3 @@
--- Texts put one behind the other, the digits of a number, how long each text is.
+-- The digits of a number, and how long the lines are.
 pub mod Digits
 pub mod Sizes

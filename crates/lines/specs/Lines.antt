@@ -1,6 +1,5 @@
 -- The lines of the report, each with its line end, and what a call that writes a text leaves in a lent buffer.
-use Rattle.std.specs.Prelude.{ℕ, ◌+◌, ◌≡◌, cond, List, ◌++◌, ltb, length, drop}
-use Rattle.std.proofs.lemmas.List.Edits.{sets}
+use Rattle.std.specs.Prelude.{ℕ, ◌≡◌, cond, List, ◌++◌, ltb, length, drop}
 use Rattle.route.specs.Rule.{Route, route}
 use Rattle.route.specs.Refusals.{Answer, fault_if, unless_fault, value, room_refusal}
 use Rattle.lines.specs.Ascii.{ascii}
@@ -41,11 +40,6 @@ too_long_line = ascii "too long\n"
 -- no line is longer
 abbrev pub max_line : ℕ
 max_line = 256
-
--- the text was put into the row from `at` on, and ends just before `next`
-pub record IsPut (text row : List ℕ) (at next : ℕ) (row' : List ℕ) : Type 0 where
-  pub ends : next ≡ at + length text
-  pub puts : row' ≡ sets row at text
 
 -- write a text: refusal 9 where the buffer is shorter, or the number of bytes
 abbrev pub text_answer : List ℕ → List ℕ → Answer

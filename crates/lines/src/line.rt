@@ -88,7 +88,7 @@ pub fn too_long(out: &mut [u8]) -> Result<usize, Refusal>
     text_line("too long\n", out)
 }
 
-// A line as it is put together.
+// A line's text, copied to the buffer's front where it fits.
 fn text_line(text: &str, out: &mut [u8]) -> Result<usize, Refusal>
     ensures { IsWritten text.now out.old (counted result) out.new }
 {
@@ -101,6 +101,8 @@ fn text_line(text: &str, out: &mut [u8]) -> Result<usize, Refusal>
 }
 
 // An update that was made, with its word.
+//
+// The numbers stay parameters: a struct of them would be built for one call and taken apart in it.
 fn update(
     nth: usize,
     word: &str,

@@ -1,15 +1,14 @@
-// The text of a line, put together part by part: numbers, addresses as dotted quads, prefixes, and routes, which are a prefix and its hop.
+// A line as far as it is put together: texts, numbers in decimal, and routes are pushed to its end.
 //
 // No part is printed by `write!`: a `Display` promises its bytes only where its answer is `Ok`, and a line that fits has to be written.
 ghost use Rattle.std.specs.Prelude.{◌≡◌, [], ◌∷◌, ◌++◌, ◌+◌, ◌≤◌, ◌<◌, length};
-ghost use Rattle.std.proofs.Math.ListN;
 ghost use Rattle.route.specs.Shown.{route_of};
 ghost use Rattle.lines.specs.Texts.{decimal, dotted_quad, prefix_text, route_text};
 
 use crate::MAX_LINE;
 use arrayvec::ArrayString;
 use itoa::Buffer;
-use route::{Length, Prefix};
+use route::Prefix;
 
 // A line as far as it is put together.
 #[derive(Drop)]
@@ -34,6 +33,7 @@ impl Line {
         self.text.as_str()
     }
 
+    // A text.
     pub(crate) fn push_str(&mut self, s: &str)
         requires { length self.old.text.bytes + length s.now ≤ MAX_LINE }
         ensures text { self.new.text.bytes ≡ self.old.text.bytes ++ s.now }
@@ -42,6 +42,7 @@ impl Line {
         self.text.push_str(s);
     }
 
+    // A number in decimal.
     pub(crate) fn push_decimal(&mut self, n: u64)
         requires { length self.old.text.bytes + 20 ≤ MAX_LINE }
         ensures text { self.new.text.bytes ≡ self.old.text.bytes ++ decimal n }
@@ -62,6 +63,7 @@ impl Line {
         self.push_decimal(n);
     }
 
+    // An address as a dotted quad.
     fn push_quad(&mut self, address: u32)
         requires { length self.old.text.bytes + 83 ≤ MAX_LINE }
         ensures text { self.new.text.bytes ≡ self.old.text.bytes ++ dotted_quad address }
@@ -74,21 +76,23 @@ impl Line {
         self.push_behind('.', d as u64);
     }
 
-    fn push_prefix(&mut self, address: u32, length: Length)
-        requires { ListN.length self.old.text.bytes + 104 ≤ MAX_LINE }
-        ensures text { self.new.text.bytes ≡ self.old.text.bytes ++ prefix_text address length.0 }
-        ensures len { ListN.length self.new.text.bytes ≤ ListN.length self.old.text.bytes + 104 }
+    // A prefix: its address, and its length behind a slash.
+    fn push_prefix(&mut self, p: Prefix)
+        requires { length self.old.text.bytes + 104 ≤ MAX_LINE }
+        ensures text { self.new.text.bytes ≡ self.old.text.bytes ++ prefix_text p.address p.length.0 }
+        ensures len { length self.new.text.bytes ≤ length self.old.text.bytes + 104 }
     {
-        self.push_quad(address);
-        self.push_behind('/', length.0 as u64);
+        self.push_quad(p.address);
+        self.push_behind('/', p.length.0 as u64);
     }
 
+    // A prefix and its hop.
     pub(crate) fn push_route(&mut self, p: Prefix)
         requires { length self.old.text.bytes + 125 ≤ MAX_LINE }
         ensures text { self.new.text.bytes ≡ self.old.text.bytes ++ route_text (route_of p) }
         ensures len { length self.new.text.bytes ≤ length self.old.text.bytes + 125 }
     {
-        self.push_prefix(p.address, p.length);
+        self.push_prefix(p);
         self.push_behind(' ', p.hop.0 as u64);
     }
 }
