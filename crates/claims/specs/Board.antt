@@ -6,7 +6,7 @@ use Rattle.std.specs.Prelude.{ℕ, ◌+◌, ◌*◌, List, [], ◌∷◌, ◌++�
 use Rattle.route.specs.Rule.{Route, route}
 use Rattle.route.specs.Refusals.{Answer, value, refused}
 use Rattle.route.specs.Lists.{list_lookup}
-use Rattle.route.specs.declared.Prefix.{Prefix}
+use Rattle.route.specs.declared.Route.{Route as FlatRoute}
 use Rattle.prefixes.specs.Prefixes.{prefixes_lookup}
 use Rattle.tcam.specs.Slots.{Cell, free, length_in, hop_in}
 use Rattle.tcam.specs.Tables.{addresses, tags}
@@ -42,7 +42,7 @@ abbrev pub found : List Route → ℕ → List ℕ
 found rs q = numbers (list_lookup 32 (map (λ r. r.address) rs) (map (λ r. r.length) rs) (map (λ r. r.hop) rs) q)
 
 -- the same over the list as one slice of prefixes
-abbrev pub prefix_of : Route → Prefix
+abbrev pub prefix_of : Route → FlatRoute
 prefix_of r = record { address = r.address; length = record { 0 = r.length }; hop = record { 0 = r.hop } }
 
 abbrev pub found_in_slice : List Route → ℕ → List ℕ

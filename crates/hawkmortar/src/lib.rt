@@ -26,7 +26,7 @@ ghost use Rattle.hawkmortar.specs.Records.{placed, cells, cells_after};
 ghost use Rattle.std.proofs.Math.ListN;
 
 use records::Record;
-use route::{Hop, Length, Prefix, Refusal};
+use route::{Hop, Length, Route, Refusal};
 use tcam::download::next_entry;
 use tcam::slots::Cell;
 
@@ -60,7 +60,7 @@ pub extern "C" fn hawkmortar_list_lookup(
 
 // Tests a list that is one slice of prefixes; the value is the number of entries.
 #[unsafe(no_mangle)]
-pub extern "C" fn hawkmortar_prefixes_check(list: &[Prefix]) -> Outcome
+pub extern "C" fn hawkmortar_prefixes_check(list: &[Route]) -> Outcome
     ensures { result ≡ outcome (prefixes_check 32 list.now) }
 {
     Outcome::from(prefixes::check(list))
@@ -68,7 +68,7 @@ pub extern "C" fn hawkmortar_prefixes_check(list: &[Prefix]) -> Outcome
 
 // Looks q up in such a list; the value is the next hop, 0 for none.
 #[unsafe(no_mangle)]
-pub extern "C" fn hawkmortar_prefixes_lookup(list: &[Prefix], q: u32) -> Outcome
+pub extern "C" fn hawkmortar_prefixes_lookup(list: &[Route], q: u32) -> Outcome
     ensures { result ≡ outcome (prefixes_lookup 32 list.now q) }
 {
     Outcome::from(prefixes::lookup(list, q))

@@ -4,7 +4,7 @@ ghost use Rattle.route.specs.Shown.{counted, number, route_of};
 ghost use Rattle.lines.specs.Lines.{header_line, update_line, set_line, remove_line, refused_line, slot_line, end_line, too_long_line, IsWritten};
 
 use crate::text::Line;
-use route::{Hop, Length, Prefix, Refusal, Slot};
+use route::{Hop, Length, Route, Refusal, Slot};
 
 // The first line: the number of slots.
 pub fn header(slots: usize, out: &mut [u8]) -> Result<usize, Refusal>
@@ -20,7 +20,7 @@ pub fn header(slots: usize, out: &mut [u8]) -> Result<usize, Refusal>
 // A set that was made: the record's number, the prefix with its hop, the writes, the used slots after.
 pub fn set(
     nth: usize,
-    p: Prefix,
+    p: Route,
     writes: usize,
     used: usize,
     out: &mut [u8],
@@ -41,7 +41,7 @@ pub fn remove(
 ) -> Result<usize, Refusal>
     ensures { IsWritten (remove_line nth address length.0 writes used) out.old (counted result) out.new }
 {
-    let p = Prefix {
+    let p = Route {
         address,
         length,
         hop: Hop(0),
@@ -62,7 +62,7 @@ pub fn refused(nth: usize, f: Refusal, out: &mut [u8]) -> Result<usize, Refusal>
 }
 
 // A used slot: its number, and the prefix with its hop.
-pub fn slot(slot: Slot, p: Prefix, out: &mut [u8]) -> Result<usize, Refusal>
+pub fn slot(slot: Slot, p: Route, out: &mut [u8]) -> Result<usize, Refusal>
     ensures { IsWritten (slot_line slot.0 (route_of p)) out.old (counted result) out.new }
 {
     let mut line = Line::new();
@@ -106,7 +106,7 @@ fn text_line(text: &str, out: &mut [u8]) -> Result<usize, Refusal>
 fn update(
     nth: usize,
     word: &str,
-    p: Prefix,
+    p: Route,
     writes: usize,
     used: usize,
     out: &mut [u8],

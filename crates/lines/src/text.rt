@@ -8,7 +8,7 @@ ghost use Rattle.lines.specs.Texts.{decimal, dotted_quad, prefix_text, route_tex
 use crate::MAX_LINE;
 use arrayvec::ArrayString;
 use itoa::Buffer;
-use route::Prefix;
+use route::Route;
 
 // A line as far as it is put together.
 #[derive(Drop)]
@@ -77,7 +77,7 @@ impl Line {
     }
 
     // A prefix: its address, and its length behind a slash.
-    fn push_prefix(&mut self, p: Prefix)
+    fn push_prefix(&mut self, p: Route)
         requires { length self.old.text.bytes + 104 ≤ MAX_LINE }
         ensures text { self.new.text.bytes ≡ self.old.text.bytes ++ prefix_text p.address p.length.0 }
         ensures len { length self.new.text.bytes ≤ length self.old.text.bytes + 104 }
@@ -87,7 +87,7 @@ impl Line {
     }
 
     // A prefix and its hop.
-    pub(crate) fn push_route(&mut self, p: Prefix)
+    pub(crate) fn push_route(&mut self, p: Route)
         requires { length self.old.text.bytes + 125 ≤ MAX_LINE }
         ensures text { self.new.text.bytes ≡ self.old.text.bytes ++ route_text (route_of p) }
         ensures len { length self.new.text.bytes ≤ length self.old.text.bytes + 125 }

@@ -11,7 +11,7 @@ use native.Mathlib.Numerals.{add-one}
 use lib.ListN.{length, get_or, set, take, drop, length-map, length-append, get_or-map}
 use lib.Seq.{sets, sets-eq, set_comm, take-suc, length-take-le, take-length, take_at, drop_at}
 use Rattle.route.specs.Rows.{overwritten}
-use Rattle.route.specs.declared.Prefix.{Prefix}
+use Rattle.route.specs.declared.Route.{Route as FlatRoute}
 use Rattle.route.proofs.Parts.{sets-append}
 use Rattle.prefixes.specs.Prefixes.{address_row, length_row, hop_row}
 use Rattle.prefixes.specs.Queries.{three_rows, first, second, third, IsReply, IsReplyOf}
@@ -23,7 +23,7 @@ set-sets l k [] j a h = refl
 set-sets l k (v ∷ vs) j a h = set-sets (set l k v) (suc k) vs j a (omega arith) ∙ ap (λ r. sets r (suc k) vs) (set_comm l k j v a (λ e. omega arith))
 
 -- one more of the run of a field f
-set_next : (f : Prefix → ℕ) (l : List ℕ) (k : ℕ) (ys : List Prefix) (i : ℕ) (d : Prefix) (j : ℕ) → i < length ys → k + i ≡ j
+set_next : (f : FlatRoute → ℕ) (l : List ℕ) (k : ℕ) (ys : List FlatRoute) (i : ℕ) (d : FlatRoute) (j : ℕ) → i < length ys → k + i ≡ j
     → set (sets l k (take i (map f ys))) j (f (get_or ys i d)) ≡ sets l k (take (suc i) (map f ys))
 set_next f l k ys i d j h e =
     let inside : i < length (map f ys) = rw length-map h in
@@ -34,14 +34,14 @@ set_next f l k ys i d j h e =
 part : (zs a b c : List ℕ) {k m : ℕ} → zs ≡ a ++ (b ++ c) → length a ≡ k → length b ≡ m → take m (drop k zs) ≡ b
 part zs a b c {k} {m} is e f = rw (is, drop_at a (b ++ c) k e) (take_at b c m f)
 
-module _ (ys : List Prefix) (xs : List ℕ) where
+module _ (ys : List FlatRoute) (xs : List ℕ) where
   abbrev n : ℕ
   n = length ys
 
   abbrev pub filled : ℕ → List ℕ
   filled i = sets (sets (sets xs 0 (take i (address_row ys))) n (take i (length_row ys))) (2 * n) (take i (hop_row ys))
 
-  pub filled_next : (d : Prefix) (i : ℕ) → i < n
+  pub filled_next : (d : FlatRoute) (i : ℕ) → i < n
       → set (set (set (filled i) i (get_or ys i d).address) (n + i) (get_or ys i d).length.0) (2 * n + i) (get_or ys i d).hop.0 ≡ filled (i + 1)
   filled_next d i h =
       let l₁ : i < 2 * n = omega arith in
@@ -54,7 +54,7 @@ module _ (ys : List Prefix) (xs : List ℕ) where
       let l : 0 + length (three_rows ys) ≤ length xs = simp (length-append, length-map) (omega arith) in
       rw (all (λ p. p.address), all (λ p. p.length.0), all (λ p. p.hop.0), two) (simp (sets-append, length-map, zero-add) at (sets-eq (three_rows ys) xs 0 l))
     where
-      all : (f : Prefix → ℕ) → take n (map f ys) ≡ map f ys
+      all : (f : FlatRoute → ℕ) → take n (map f ys) ≡ map f ys
       all f = rw length-map at (take-length (map f ys))
 
   abbrev made : List ℕ
@@ -75,6 +75,6 @@ module _ (ys : List Prefix) (xs : List ℕ) where
       part made (address_row ys ++ length_row ys) (hop_row ys) rest (simp append_assoc) e (length-map ys _)
 
 -- the reply for the rows that stand in the row filled is the reply for the list
-pub reply-of-list : {W q : ℕ} {looking : Bool} {reply : Reply} (ps : List Prefix) (xs zs : List ℕ) → zs ≡ overwritten (three_rows ps) xs
+pub reply-of-list : {W q : ℕ} {looking : Bool} {reply : Reply} (ps : List FlatRoute) (xs zs : List ℕ) → zs ≡ overwritten (three_rows ps) xs
     → IsReply W looking (first (length ps) zs) (second (length ps) zs) (third (length ps) zs) q reply → IsReplyOf W looking ps q reply
 reply-of-list ps xs zs e says = rw (e, first-row ps xs, second-row ps xs, third-row ps xs) at says

@@ -2,22 +2,22 @@
 use Rattle.std.specs.Prelude.{ℕ, List, map}
 use Rattle.route.specs.Refusals.{Answer}
 use Rattle.route.specs.Lists.{list_check, list_lookup}
-use Rattle.route.specs.declared.Prefix.{Prefix}
+use Rattle.route.specs.declared.Route.{Route as FlatRoute}
 
 -- the rows of a list of prefixes
-abbrev pub address_row : List Prefix → List ℕ
-address_row ps = map (λ (p : Prefix). p.address) ps
+abbrev pub address_row : List FlatRoute → List ℕ
+address_row ps = map (λ (p : FlatRoute). p.address) ps
 
-abbrev pub length_row : List Prefix → List ℕ
-length_row ps = map (λ (p : Prefix). p.length.0) ps
+abbrev pub length_row : List FlatRoute → List ℕ
+length_row ps = map (λ (p : FlatRoute). p.length.0) ps
 
-abbrev pub hop_row : List Prefix → List ℕ
-hop_row ps = map (λ (p : Prefix). p.hop.0) ps
+abbrev pub hop_row : List FlatRoute → List ℕ
+hop_row ps = map (λ (p : FlatRoute). p.hop.0) ps
 
 -- test a list of prefixes: refusals 8 and 1 to 4, or the number of entries
-abbrev pub prefixes_check : ℕ → List Prefix → Answer
+abbrev pub prefixes_check : ℕ → List FlatRoute → Answer
 prefixes_check W ps = list_check W (address_row ps) (length_row ps) (hop_row ps)
 
 -- look q up: refusals 8 and 1 to 4, or the answer
-abbrev pub prefixes_lookup : ℕ → List Prefix → ℕ → Answer
+abbrev pub prefixes_lookup : ℕ → List FlatRoute → ℕ → Answer
 prefixes_lookup W ps q = list_lookup W (address_row ps) (length_row ps) (hop_row ps) q

@@ -2,12 +2,12 @@
 use Rattle.std.specs.Prelude.{ℕ, ◌*◌, ◌≡◌, Bool, true, false, List, ◌++◌, take, drop}
 use Rattle.route.specs.Lists.{list_check, list_lookup}
 use Rattle.route.specs.Shown.{counted, shown}
-use Rattle.route.specs.declared.Prefix.{Prefix}
+use Rattle.route.specs.declared.Route.{Route as FlatRoute}
 use Rattle.prefixes.specs.Prefixes.{address_row, length_row, hop_row}
 use Rattle.prefixes.specs.declared.Reply.{Reply}
 
 -- the rows of a list, one behind the other
-abbrev pub three_rows : List Prefix → List ℕ
+abbrev pub three_rows : List FlatRoute → List ℕ
 three_rows ps = address_row ps ++ (length_row ps ++ hop_row ps)
 
 -- the rows, of n entries each, that stand one behind the other
@@ -26,5 +26,5 @@ pub record IsReply (W : ℕ) (looking : Bool) (ad ns hs : List ℕ) (q : ℕ) (r
   pub found : looking ≡ true → shown reply.hop ≡ list_lookup W ad ns hs q
 
 -- the reply for a list of prefixes
-abbrev pub IsReplyOf : ℕ → Bool → List Prefix → ℕ → Reply → Type 0
+abbrev pub IsReplyOf : ℕ → Bool → List FlatRoute → ℕ → Reply → Type 0
 IsReplyOf W looking ps q reply = IsReply W looking (address_row ps) (length_row ps) (hop_row ps) q reply

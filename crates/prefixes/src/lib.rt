@@ -12,7 +12,7 @@ ghost use Rattle.route.specs.Rows.{overwritten};
 ghost use Rattle.prefixes.specs.Prefixes.{prefixes_check, prefixes_lookup};
 ghost use Rattle.prefixes.specs.Queries.{three_rows, first, second, third, IsReply, IsReplyOf};
 
-use route::{Counted, Found, MAX_ROUTES, Prefix, Refusal, list};
+use route::{Counted, Found, MAX_ROUTES, Route, Refusal, list};
 
 // What a query of a list answers: the hop where an address is looked up, else the count of entries.
 #[derive(Clone, Copy)]
@@ -22,7 +22,7 @@ struct Reply {
 }
 
 // Tests a list; refusals as of `route::list::check`.
-pub fn check(list: &[Prefix]) -> Counted
+pub fn check(list: &[Route]) -> Counted
     ensures { counted result ≡ prefixes_check 32 list.now }
 {
     if list.len() <= 64 {
@@ -32,7 +32,7 @@ pub fn check(list: &[Prefix]) -> Counted
 }
 
 // The next hop of the longest prefix that matches q; refusals as of `check`.
-pub fn lookup(list: &[Prefix], q: u32) -> Found
+pub fn lookup(list: &[Route], q: u32) -> Found
     ensures { shown result ≡ prefixes_lookup 32 list.now q }
 {
     if list.len() <= 64 {
@@ -55,7 +55,7 @@ fn hop_of(reply: Reply) -> Found
 
 // Queries a list of any length. `check` and `lookup` do not call it for a short list, in whose frame
 // the largest array would then stand.
-fn query_long(list: &[Prefix], looking: bool, q: u32) -> Reply
+fn query_long(list: &[Route], looking: bool, q: u32) -> Reply
     ensures { IsReplyOf 32 looking list.now q result }
 {
     if list.len() <= 256 {
@@ -81,7 +81,7 @@ fn too_many() -> Reply
 }
 
 // Queries a list of at most 64 entries.
-fn query_64(list: &[Prefix], looking: bool, q: u32) -> Reply
+fn query_64(list: &[Route], looking: bool, q: u32) -> Reply
     requires { length list.now ≤ 64 }
     ensures { IsReplyOf 32 looking list.now q result }
 {
@@ -91,7 +91,7 @@ fn query_64(list: &[Prefix], looking: bool, q: u32) -> Reply
 }
 
 // Queries a list of at most 256 entries.
-fn query_256(list: &[Prefix], looking: bool, q: u32) -> Reply
+fn query_256(list: &[Route], looking: bool, q: u32) -> Reply
     requires { length list.now ≤ 256 }
     ensures { IsReplyOf 32 looking list.now q result }
 {
@@ -101,7 +101,7 @@ fn query_256(list: &[Prefix], looking: bool, q: u32) -> Reply
 }
 
 // Queries a list of at most 1,024 entries.
-fn query_1024(list: &[Prefix], looking: bool, q: u32) -> Reply
+fn query_1024(list: &[Route], looking: bool, q: u32) -> Reply
     requires { length list.now ≤ 1024 }
     ensures { IsReplyOf 32 looking list.now q result }
 {
@@ -111,7 +111,7 @@ fn query_1024(list: &[Prefix], looking: bool, q: u32) -> Reply
 }
 
 // Queries a list of at most 4,096 entries.
-fn query_4096(list: &[Prefix], looking: bool, q: u32) -> Reply
+fn query_4096(list: &[Route], looking: bool, q: u32) -> Reply
     requires { length list.now ≤ 4096 }
     ensures { IsReplyOf 32 looking list.now q result }
 {
@@ -121,7 +121,7 @@ fn query_4096(list: &[Prefix], looking: bool, q: u32) -> Reply
 }
 
 // Writes the rows of a list, one behind the other, over the front of a row.
-fn copy_rows(list: &[Prefix], rows: &mut [u32])
+fn copy_rows(list: &[Route], rows: &mut [u32])
     requires { 3 * length list.now ≤ length rows.old }
     ensures { rows.new ≡ overwritten (three_rows list.now) rows.old }
 {

@@ -11,7 +11,7 @@ ghost use Rattle.ranges.specs.Sweeps.{ends_with, joined, open_hop, extended, adv
 
 use crate::words::{Range, prefix_of, range_of, word_of};
 use route::rule::span_of;
-use route::{Hop, Prefix};
+use route::{Hop, Route};
 use std::num::wrapping_add_u32;
 
 // A sweep over keys: how many are read, how many of these prefixes are open, the address up to which
@@ -29,7 +29,7 @@ pub struct Sweep<'a> {
 }
 
 // One past the last address of a prefix; past the last address of all it is 0.
-fn past_end(p: Prefix) -> u32
+fn past_end(p: Route) -> u32
     ensures { result ≡ past_end 32 (route_of p) }
 {
     let span = span_of(p.length);
@@ -38,7 +38,7 @@ fn past_end(p: Prefix) -> u32
 }
 
 // Whether a prefix ends at x or before: where the one past its end is 0 it never does.
-fn ends_by(p: Prefix, x: u32) -> bool
+fn ends_by(p: Route, x: u32) -> bool
     ensures { result ≡ ends_by 32 x (route_of p) }
 {
     let past = past_end(p);
@@ -66,7 +66,7 @@ impl<'a> Sweep<'a> {
     }
 
     // The prefix opened last.
-    fn last(&self) -> Option<Prefix>
+    fn last(&self) -> Option<Route>
         ensures some { IfSome result (λ p. (0 < self.now.opened) × (route_of p ≡ key_at self.now.keys.now (self.now.opened - 1))) }
         ensures none { IfNone result (self.now.opened ≡ 0) }
     {

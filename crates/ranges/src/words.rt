@@ -4,7 +4,7 @@ ghost use Rattle.route.specs.Shown.{route_of};
 ghost use Rattle.ranges.specs.Words.{key_of, route_in, word_of, range_in};
 ghost use Rattle.ranges.specs.Shown.{range_of};
 
-use route::{Hop, Length, Prefix, order};
+use route::{Hop, Length, Route, order};
 
 // A range: where it starts, and its hop.
 #[derive(Clone, Copy, PartialEq, Eq)]
@@ -14,17 +14,17 @@ pub struct Range {
 }
 
 // The key of a prefix: its address, then its length, then its hop.
-pub(crate) fn key_of(p: Prefix) -> u64
+pub(crate) fn key_of(p: Route) -> u64
     ensures { result ≡ key_of (route_of p) }
 {
     order::key_of(p.address, p.length) * 65536 + (p.hop.0 as u64)
 }
 
 // The prefix that a key says.
-pub(crate) fn prefix_of(key: u64) -> Prefix
+pub(crate) fn prefix_of(key: u64) -> Route
     ensures { route_of result ≡ route_in key }
 {
-    Prefix {
+    Route {
         address: (key / 4194304 % 4294967296) as u32,
         length: Length((key / 65536 % 64) as u32),
         hop: Hop((key % 65536) as u32),

@@ -16,12 +16,12 @@ ghost use Rattle.records.specs.Records.{checked_at, kind_from, record_at};
 ghost use Rattle.records.specs.Shown.{kind_number, reading_by, reply, reply_of};
 
 use numbers::number_at;
-use route::{Hop, Length, Prefix, Refusal, rule};
+use route::{Hop, Length, Route, Refusal, rule};
 
 // What a record asks for: the set of a prefix with its next hop, or the removal of one.
 #[derive(Clone, Copy)]
 pub enum Record {
-    Set(Prefix),
+    Set(Route),
     Remove(u32, Length),
 }
 
@@ -73,7 +73,7 @@ fn record_from(bytes: &[u8], at: usize) -> Result<(Record, usize), Refusal>
         Kind::Remove => Ok((Record::Remove(address, length), next)),
         Kind::Set => {
             let (hop, next) = hop_at(bytes, next)?;
-            let set = Prefix {
+            let set = Route {
                 address,
                 length,
                 hop,

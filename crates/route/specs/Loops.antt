@@ -2,7 +2,7 @@
 use Rattle.std.specs.Prelude.{ℕ, zero, suc, ◌+◌, ◌<◌, ◌≡◌, List, [], ◌∷◌, get_or, Option, None, Some}
 use Rattle.route.specs.Rule.{Route, route, span, Match, nothing, best}
 use Rattle.route.specs.Shown.{route_of}
-use Rattle.route.specs.declared.Prefix.{Prefix}
+use Rattle.route.specs.declared.Route.{Route as RouteStruct}
 
 -- s is the span of length n, and can be divided by
 pub record IsSpan (W n s : ℕ) : Type 0 where
@@ -24,6 +24,6 @@ abbrev pub entry_of : List Route → ℕ → Route
 entry_of rs i = get_or rs i (route 0 0 0)
 
 -- the longest match so far
-abbrev pub match_of : Option Prefix → Match
+abbrev pub match_of : Option RouteStruct → Match
 match_of None = nothing
-match_of (Some p) = best (route_of p)
+match_of (Some r) = best (route_of r)

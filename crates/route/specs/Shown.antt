@@ -6,13 +6,13 @@ use Rattle.route.specs.Rule.{Route, route}
 use Rattle.route.specs.Refusals.{Answer, value, refused, Verdict, fine, fault}
 use Rattle.route.specs.Refusals.{length_refusal, address_refusal, hop_refusal, twice_refusal, full_refusal, absent_refusal, image_refusal}
 use Rattle.route.specs.Refusals.{size_refusal, room_refusal, plan_refusal, number_refusal, cut_refusal, kind_refusal}
-use Rattle.route.specs.declared.Prefix.{Prefix}
+use Rattle.route.specs.declared.Route.{Route as RouteStruct}
 use Rattle.route.specs.declared.Refusal.{Refusal}
 use Rattle.route.specs.declared.Refusal.TheVariants.{Length, Address, Hop, Twice, Full, Absent, Image, Size, Room, Plan, Number, Cut, Kind}
 use Rattle.route.specs.declared.Hop.{Hop as NextHop}
 
-abbrev pub route_of : Prefix → Route
-route_of p = route p.address p.length.0 p.hop.0
+abbrev pub route_of : RouteStruct → Route
+route_of r = route r.prefix.address r.prefix.length.0 r.hop.0
 
 -- the number of a hop or none
 abbrev pub hop_number : Option NextHop → ℕ

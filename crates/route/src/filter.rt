@@ -6,7 +6,7 @@
 ghost use Rattle.std.specs.Prelude.{◌≡◌, ◌<◌, ◌≤◌, length};
 ghost use Rattle.route.specs.Filter.{hash_of, word_in, bits_of, Noting};
 
-use crate::Length;
+use crate::Prefix;
 
 // A filter of so many words.
 #[derive(Drop)]
@@ -16,10 +16,10 @@ pub struct Filter<const WORDS: usize> {
 }
 
 // A number for each prefix, of which its word and its bits are parts.
-fn hash(address: u32, n: Length) -> u64
-    ensures { result ≡ hash_of address n.0 }
+fn hash(p: Prefix) -> u64
+    ensures { result ≡ hash_of p.address p.length.0 }
 {
-    (address as u64) * 2654435769 + (n.0 as u64) * 1540483477
+    (p.address as u64) * 2654435769 + (p.length.0 as u64) * 1540483477
 }
 
 // The word of a number in a row of so many words. A power of two is used evenly.
@@ -49,11 +49,11 @@ impl<const WORDS: usize> Filter<WORDS> {
     }
 
     // Notes a prefix; whether it may have been noted before.
-    pub fn note(&mut self, address: u32, n: Length) -> bool
-        ensures noting { Noting self.old.words address n.0 result self.new.words }
+    pub fn note(&mut self, p: Prefix) -> bool
+        ensures noting { Noting self.old.words p.address p.length.0 result self.new.words }
         ensures words_len_unchanged { length self.new.words ≡ length self.old.words }
     {
-        let h = hash(address, n);
+        let h = hash(p);
         let w = word_in(WORDS, h);
         let before = self.words[w];
         let after = before | bits_of(h);

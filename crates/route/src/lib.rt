@@ -38,12 +38,19 @@ pub struct Hop(pub u32);
 #[derive(Clone, Copy, PartialEq, Eq, PartialOrd, Ord)]
 pub struct Slot(pub usize);
 
-// A prefix with its next hop.
+// A prefix: the addresses that have its first bits, as many as its length says.
 #[repr(C)]
-#[derive(Clone, Copy)]
+#[derive(Clone, Copy, PartialEq, Eq)]
 pub struct Prefix {
     pub address: u32,
     pub length: Length,
+}
+
+// A prefix with its next hop.
+#[repr(C)]
+#[derive(Clone, Copy)]
+pub struct Route {
+    pub prefix: Prefix,
     pub hop: Hop,
 }
 

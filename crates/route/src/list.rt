@@ -14,7 +14,7 @@ ghost use Rattle.route.specs.Shown.{number, place, route_of, verdict_of, counted
 ghost use Rattle.route.specs.Loops.{entry_of, match_of};
 
 use crate::filter::Filter;
-use crate::{Hop, Length, MAX_ROUTES, Prefix, Refusal, rule};
+use crate::{Hop, Length, MAX_ROUTES, Prefix, Refusal, Route, rule};
 
 // A list of no more entries is short: comparing them all takes less time than clearing a filter.
 const SHORT: usize = 8;
@@ -50,16 +50,9 @@ pub fn lookup(
     let list = List::new(addresses, lengths, hops)?;
     list.check()?;
     match list.longest_match(q) {
-        Some(p) => Ok(Some(p.hop)),
+        Some(r) => Ok(Some(r.hop)),
         None => Ok(None),
     }
-}
-
-// Whether two entries have one prefix.
-fn has_prefix(p: Prefix, o: Prefix) -> bool
-    ensures { result ≡ same_prefix (route_of p) (route_of o) }
-{
-    (p.address == o.address) & (p.length == o.length)
 }
 
 impl<'a> List<'a> {
@@ -93,13 +86,16 @@ impl<'a> List<'a> {
     }
 
     // Entry i.
-    pub fn entry(&self, i: usize) -> Prefix
+    pub fn entry(&self, i: usize) -> Route
         requires { i < length self.now.addresses.now }
         ensures { route_of result ≡ entry_of (routes_of self.now) i }
     {
-        Prefix {
+        let prefix = Prefix {
             address: self.addresses[i],
             length: Length(self.lengths[i]),
+        };
+        Route {
+            prefix,
             hop: Hop(self.hops[i]),
         }
     }
@@ -113,11 +109,11 @@ impl<'a> List<'a> {
         let mut filter = Filter::<WORDS>::of(word);
         let mut twice = None;
         'entries: for i in 0..self.len() {
-            let p = self.entry(i);
-            rule::entry_check(i, p)?;
-            if filter.note(p.address, p.length) {
+            let r = self.entry(i);
+            rule::entry_check(i, r)?;
+            if filter.note(r.prefix) {
                 for j in 0..i {
-                    if has_prefix(p, self.entry(j)) {
+                    if has_prefix(r, self.entry(j)) {
                         twice = Some(i);
                         break 'entries;
                     }
@@ -153,25 +149,32 @@ impl<'a> List<'a> {
     }
 
     // The longest match, found from the list's end.
-    fn longest_match(&self, q: u32) -> Option<Prefix>
+    fn longest_match(&self, q: u32) -> Option<Route>
         ensures { match_of result ≡ longest 32 (routes_of self.now) q }
     {
         let mut best = None;
         for i in (0..self.len()).rev() {
-            let p = self.entry(i);
-            best = improve(best, rule::covers(p, q), p);
+            let r = self.entry(i);
+            best = improve(best, rule::covers(r.prefix, q), r);
         }
         best
     }
 }
 
+// Whether two routes have one prefix.
+fn has_prefix(r: Route, s: Route) -> bool
+    ensures { result ≡ same_prefix (route_of r) (route_of s) }
+{
+    r.prefix == s.prefix
+}
+
 // The longest match of the entries after this one, or this one where it matches and is longer.
-fn improve(m: Option<Prefix>, hit: bool, p: Prefix) -> Option<Prefix>
-    ensures { match_of result ≡ improved hit (route_of p) (match_of m) }
+fn improve(m: Option<Route>, hit: bool, r: Route) -> Option<Route>
+    ensures { match_of result ≡ improved hit (route_of r) (match_of m) }
 {
     match m {
         _ if !hit => m,
-        Some(o) if p.length <= o.length => m,
-        _ => Some(p),
+        Some(o) if r.prefix.length <= o.prefix.length => m,
+        _ => Some(r),
     }
 }

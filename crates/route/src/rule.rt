@@ -8,7 +8,7 @@ ghost use Rattle.route.specs.Refusals.{prefix_fault, hop_fault, entry_fault};
 ghost use Rattle.route.specs.Shown.{route_of, verdict_of};
 ghost use Rattle.route.specs.Loops.{IsSpan};
 
-use crate::{Hop, Length, MAX_HOP, Prefix, Refusal};
+use crate::{Hop, Length, MAX_HOP, Prefix, Refusal, Route};
 
 // How many addresses a prefix of length n covers; a length over 32 counts as 32.
 pub fn span_of(n: Length) -> u64
@@ -27,13 +27,13 @@ pub fn covers(p: Prefix, q: u32) -> bool
 }
 
 // Refusal 1 for a length over 32, then 2 for an address that is no multiple of the span.
-pub fn prefix_check(place: usize, address: u32, length: Length) -> Result<(), Refusal>
-    ensures { verdict_of result ≡ prefix_fault 32 place address length.0 }
+pub fn prefix_check(place: usize, p: Prefix) -> Result<(), Refusal>
+    ensures { verdict_of result ≡ prefix_fault 32 place p.address p.length.0 }
 {
-    if 32 < length.0 {
+    if Length(32) < p.length {
         return Err(Refusal::Length(place));
     }
-    if (address as u64) % span_of(length) != 0 {
+    if (p.address as u64) % span_of(p.length) != 0 {
         return Err(Refusal::Address(place));
     }
     Ok(())
@@ -50,9 +50,9 @@ pub fn hop_check(place: usize, hop: Hop) -> Result<(), Refusal>
 }
 
 // Refusals 1, 2, 3 of a prefix and its hop, in this order.
-pub fn entry_check(place: usize, p: Prefix) -> Result<(), Refusal>
-    ensures { verdict_of result ≡ entry_fault 32 place (route_of p) }
+pub fn entry_check(place: usize, r: Route) -> Result<(), Refusal>
+    ensures { verdict_of result ≡ entry_fault 32 place (route_of r) }
 {
-    prefix_check(place, p.address, p.length)?;
-    hop_check(place, p.hop)
+    prefix_check(place, r.prefix)?;
+    hop_check(place, r.hop)
 }

@@ -19,7 +19,7 @@ use crate::image::table_check;
 use crate::slots::{Cell, Group};
 use crate::table::Table;
 use route::rule::{entry_check, prefix_check};
-use route::{Hop, Length, Prefix, Refusal, Slot};
+use route::{Hop, Length, Route, Refusal, Slot};
 
 // The groups of slots: one for each length, and the pool.
 const GROUPS: usize = 34;
@@ -278,7 +278,7 @@ pub fn plan_set(
     ensures { IsPlanned (plan_set 32 addresses.now tags.now address length.0 hop.0 (ListN.length plan.old)) plan.old (counted result) plan.new }
 {
     table_check(addresses, tags)?;
-    let p = Prefix {
+    let p = Route {
         address,
         length,
         hop,

@@ -8,7 +8,7 @@ ghost use Rattle.tcam.specs.Shown.{cell_of, prefix_in, group_of};
 
 use crate::MAX_SLOTS;
 use route::rule::{covers, span_of};
-use route::{Hop, Length, Prefix, Refusal};
+use route::{Hop, Length, Route, Refusal};
 
 // The slots of one group: the entries of one length, or the pool's free slots. A row of edge slots
 // has a number for each group, the lengths 0 to 32 and then the pool.
@@ -63,10 +63,10 @@ impl Cell {
     }
 
     // The prefix with its hop.
-    pub fn prefix(self) -> Prefix
+    pub fn prefix(self) -> Route
         ensures { route_of result ≡ prefix_in (cell_of self) }
     {
-        Prefix {
+        Route {
             address: self.address,
             length: self.length(),
             hop: self.hop(),

@@ -11,5 +11,5 @@ returns-in-Some c =
     let l = c.in_ok-list.ensures.ok in
     let good : rows_fault 32 a.addresses.now a.lengths.now a.hops.now ≡ fine =
     rw (← l.0) (sym (rw (l.1, l.2, l.3) at c.in_ok-check.ensures)) in
-    lookup-via 32 a.addresses.now a.lengths.now a.hops.now a.q good c.in-Some.p.hop
+    lookup-via 32 a.addresses.now a.lengths.now a.hops.now a.q good c.in-Some.r.hop
     (rw (l.1, l.2, l.3) at (rw c.in-Some.is at c.longest_match.ensures))

@@ -17,7 +17,7 @@ returns-in-Some g c =
     elim c.entries-test.branch [
       | else-entries-test w ↦ cc
       | then-entries-test+in_ok-entry_check+then-note+then-loop-j-test+then-has_prefix w ↦
-          let at = checked-twice c.entries.invariant.0 (search rules) w.entry-p.ensures w.in_ok-entry_check.ensures
+          let at = checked-twice c.entries.invariant.0 (search rules) w.entry-r.ensures w.in_ok-entry_check.ensures
           (none-hit w.loop-j.invariant.0 w.loop-j-test.true w.entry.ensures (sym w.has_prefix.ensures ∙ w.if-has_prefix.true)) in
           cc
     ]
@@ -26,11 +26,11 @@ pub entries-preserved : goal.entries-preserved
 entries-preserved g c =
     let inv = c.entries.invariant in
     let inside : c.entries.i < length (routes_of c.args.self.now) = omega arith in
-    let noted = noted-turn inv.1 one-prefix c.entry-p.ensures c.note.ensures.noting c.note.ensures.words_len_unchanged in
+    let noted = noted-turn inv.1 one-prefix c.entry-r.ensures c.note.ensures.noting c.note.ensures.words_len_unchanged in
     elim c.if-note.branch [
       | then-note+else-loop-j-test w ↦
           let none : w.loop-j.j ≡ c.entries.i = omega arith in
-          (checked-turn inv.0 inside c.entry-p.ensures c.in_ok-entry_check.ensures (rw none at w.loop-j.invariant.0.none), noted, cc)
+          (checked-turn inv.0 inside c.entry-r.ensures c.in_ok-entry_check.ensures (rw none at w.loop-j.invariant.0.none), noted, cc)
       | else-note w ↦
-          (checked-turn inv.0 inside c.entry-p.ensures c.in_ok-entry_check.ensures (noted-none inv.1 (route_of c.entry-p.result) (sym c.note.ensures.noting.asked ∙ w.if-note.false)), noted, cc)
+          (checked-turn inv.0 inside c.entry-r.ensures c.in_ok-entry_check.ensures (noted-none inv.1 (route_of c.entry-r.result) (sym c.note.ensures.noting.asked ∙ w.if-note.false)), noted, cc)
     ]

@@ -13,7 +13,7 @@ use Rattle.route.proofs.list.List.check_with.Given as goal
 
 abbrev pub invariant-loop-j : goal.invariant-loop-j
 invariant-loop-j g l =
-    NoneBefore (same_prefix (route_of l.p)) (entry_of (routes_of l.self)) l.i l.j
+    NoneBefore (same_prefix (route_of l.r)) (entry_of (routes_of l.self)) l.i l.j
     × (l.twice ≡ None)
 
 abbrev pub invariant-entries : goal.invariant-entries
