@@ -4,7 +4,7 @@ ghost use Rattle.route.specs.Shown.{counted, number, route_of};
 ghost use Rattle.lines.specs.Lines.{header_line, update_line, set_line, remove_line, refused_line, slot_line, end_line, too_long_line, IsWritten};
 
 use crate::text::Line;
-use route::{Hop, Length, Route, Refusal, Slot};
+use route::{Hop, Prefix, Refusal, Route, Slot};
 
 // The first line: the number of slots.
 pub fn header(slots: usize, out: &mut [u8]) -> Result<usize, Refusal>
@@ -20,33 +20,31 @@ pub fn header(slots: usize, out: &mut [u8]) -> Result<usize, Refusal>
 // A set that was made: the record's number, the prefix with its hop, the writes, the used slots after.
 pub fn set(
     nth: usize,
-    p: Route,
+    r: Route,
     writes: usize,
     used: usize,
     out: &mut [u8],
 ) -> Result<usize, Refusal>
-    ensures { IsWritten (set_line nth (route_of p) writes used) out.old (counted result) out.new }
+    ensures { IsWritten (set_line nth (route_of r) writes used) out.old (counted result) out.new }
 {
-    update(nth, " set ", p, writes, used, out)
+    update(nth, " set ", r, writes, used, out)
 }
 
 // A removal that was made; its hop is 0.
 pub fn remove(
     nth: usize,
-    address: u32,
-    length: Length,
+    prefix: Prefix,
     writes: usize,
     used: usize,
     out: &mut [u8],
 ) -> Result<usize, Refusal>
-    ensures { IsWritten (remove_line nth address length.0 writes used) out.old (counted result) out.new }
+    ensures { IsWritten (remove_line nth prefix.address prefix.length.0 writes used) out.old (counted result) out.new }
 {
-    let p = Route {
-        address,
-        length,
+    let r = Route {
+        prefix,
         hop: Hop(0),
     };
-    update(nth, " remove ", p, writes, used, out)
+    update(nth, " remove ", r, writes, used, out)
 }
 
 // An update that was refused, or a record that cannot be read.
@@ -62,14 +60,14 @@ pub fn refused(nth: usize, f: Refusal, out: &mut [u8]) -> Result<usize, Refusal>
 }
 
 // A used slot: its number, and the prefix with its hop.
-pub fn slot(slot: Slot, p: Route, out: &mut [u8]) -> Result<usize, Refusal>
-    ensures { IsWritten (slot_line slot.0 (route_of p)) out.old (counted result) out.new }
+pub fn slot(slot: Slot, r: Route, out: &mut [u8]) -> Result<usize, Refusal>
+    ensures { IsWritten (slot_line slot.0 (route_of r)) out.old (counted result) out.new }
 {
     let mut line = Line::new();
     line.push_str("slot");
     line.push_behind(' ', slot.0 as u64);
     line.push_str(" ");
-    line.push_route(p);
+    line.push_route(r);
     line.push_str("\n");
     text_line(line.as_str(), out)
 }
@@ -106,18 +104,18 @@ fn text_line(text: &str, out: &mut [u8]) -> Result<usize, Refusal>
 fn update(
     nth: usize,
     word: &str,
-    p: Route,
+    r: Route,
     writes: usize,
     used: usize,
     out: &mut [u8],
 ) -> Result<usize, Refusal>
     requires { length word.now ≤ 8 }
-    ensures { IsWritten (update_line nth word.now (route_of p) writes used) out.old (counted result) out.new }
+    ensures { IsWritten (update_line nth word.now (route_of r) writes used) out.old (counted result) out.new }
 {
     let mut line = Line::new();
     line.push_decimal(nth as u64);
     line.push_str(word);
-    line.push_route(p);
+    line.push_route(r);
     line.push_behind(' ', writes as u64);
     line.push_behind(' ', used as u64);
     line.push_str("\n");

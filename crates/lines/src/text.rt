@@ -8,7 +8,7 @@ ghost use Rattle.lines.specs.Texts.{decimal, dotted_quad, prefix_text, route_tex
 use crate::MAX_LINE;
 use arrayvec::ArrayString;
 use itoa::Buffer;
-use route::Route;
+use route::{Prefix, Route};
 
 // A line as far as it is put together.
 #[derive(Drop)]
@@ -77,7 +77,7 @@ impl Line {
     }
 
     // A prefix: its address, and its length behind a slash.
-    fn push_prefix(&mut self, p: Route)
+    fn push_prefix(&mut self, p: Prefix)
         requires { length self.old.text.bytes + 104 ≤ MAX_LINE }
         ensures text { self.new.text.bytes ≡ self.old.text.bytes ++ prefix_text p.address p.length.0 }
         ensures len { length self.new.text.bytes ≤ length self.old.text.bytes + 104 }
@@ -87,12 +87,12 @@ impl Line {
     }
 
     // A prefix and its hop.
-    pub(crate) fn push_route(&mut self, p: Route)
+    pub(crate) fn push_route(&mut self, r: Route)
         requires { length self.old.text.bytes + 125 ≤ MAX_LINE }
-        ensures text { self.new.text.bytes ≡ self.old.text.bytes ++ route_text (route_of p) }
+        ensures text { self.new.text.bytes ≡ self.old.text.bytes ++ route_text (route_of r) }
         ensures len { length self.new.text.bytes ≤ length self.old.text.bytes + 125 }
     {
-        self.push_prefix(p);
-        self.push_behind(' ', p.hop.0 as u64);
+        self.push_prefix(r.prefix);
+        self.push_behind(' ', r.hop.0 as u64);
     }
 }
