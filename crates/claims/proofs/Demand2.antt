@@ -13,7 +13,7 @@ use Rattle.route.proofs.RouteSet.{RouteSet, route_set}
 use Rattle.route.proofs.Accepted.{rows_of_set, counted-fine}
 use Rattle.route.proofs.Entries.{routes-length, routes-addresses}
 use Rattle.route.proofs.LongestMatch.{right, only}
-use Rattle.route.specs.declared.Route.{Route as FlatRoute}
+use Rattle.route.specs.declared.Route.{Route as RouteStruct}
 use Rattle.prefixes.specs.Prefixes.{address_row, length_row, hop_row}
 use Rattle.prefixes.proofs.Prefixes.{equal-rows, routes-of-rows}
 use Rattle.tcam.proofs.SlotsAgree.{slots_agree}
@@ -63,7 +63,7 @@ module _ (W : ℕ) (ad ns hs : List ℕ) (s : RowsOfSet W ad ns hs) where
     fewer = λ r m e. ranges_fewer W (routes ad ns hs) r m (s.valid r m) e (placed small r m);
   }
 
-module _ (W : ℕ) (ps : List FlatRoute) where
+module _ (W : ℕ) (ps : List RouteStruct) where
   abbrev ad : List ℕ
   ad = address_row ps
 

@@ -8,7 +8,7 @@ use Rattle.route.specs.Lists.{routes, rows_fault, list_lookup}
 use Rattle.route.specs.Limits.{max_hop, max_routes}
 use Rattle.route.specs.RowsOfSet.{Valid, Distinct, RowsOfSet}
 use Rattle.route.specs.Shown.{route_of}
-use Rattle.route.specs.declared.Route.{Route as FlatRoute}
+use Rattle.route.specs.declared.Route.{Route as RouteStruct}
 use Rattle.prefixes.specs.Prefixes.{prefixes_check, prefixes_lookup}
 use Rattle.tcam.specs.Slots.{max_slots, Cell, slot_lookup}
 use Rattle.tcam.specs.Tables.{addresses, tags, TableOf}
@@ -51,12 +51,12 @@ pub record RangesFor (W : ℕ) (rs : List Route) (t : List Range) : Type 0 where
 
 -- a list that is one slice of prefixes, in the words of their routes: those that are accepted are those of a set, and such a list
 -- answers every address, right
-pub record SetOfPrefixes (W : ℕ) (ps : List FlatRoute) : Type 0 where
+pub record SetOfPrefixes (W : ℕ) (ps : List RouteStruct) : Type 0 where
   pub few : length ps ≤ max_routes
   pub valid : (r : Route) → r ∈ map route_of ps → Valid W r
   pub distinct : Distinct (map route_of ps)
 
-pub record PrefixList (W : ℕ) (ps : List FlatRoute) : Type 0 where
+pub record PrefixList (W : ℕ) (ps : List RouteStruct) : Type 0 where
   pub premise : (prefixes_check W ps ≡ value (length ps)) ↔ SetOfPrefixes W ps
   pub right : SetOfPrefixes W ps → (q : ℕ) → Right W (map route_of ps) q (answer W (map route_of ps) q)
   pub list : SetOfPrefixes W ps → (q : ℕ) → prefixes_lookup W ps q ≡ value (answer W (map route_of ps) q)
@@ -68,7 +68,7 @@ pub record Demand2 : Type 0 where
   pub premise : (W : ℕ) (ad ns hs : List ℕ) → (rows_fault W ad ns hs ≡ fine) ↔ RowsOfSet W ad ns hs
   pub agree : (W : ℕ) (ad ns hs : List ℕ) → RowsOfSet W ad ns hs → (q : ℕ) → Agree W ad ns hs q (answer W (routes ad ns hs) q)
   pub only : (W : ℕ) (ad ns hs : List ℕ) → RowsOfSet W ad ns hs → (q h : ℕ) → Right W (routes ad ns hs) q h → h ≡ answer W (routes ad ns hs) q
-  pub prefixes : (W : ℕ) (ps : List FlatRoute) → PrefixList W ps
+  pub prefixes : (W : ℕ) (ps : List RouteStruct) → PrefixList W ps
   pub table : (W : ℕ) (ad ns hs : List ℕ) → RowsOfSet W ad ns hs → Addresses W ad → (t : List Range) →
       RangesFor W (routes ad ns hs) t ↔ (t ≡ ranges_of W (routes ad ns hs))
   pub fits : (W : ℕ) (ad ns hs : List ℕ) → RowsOfSet W ad ns hs → Addresses W ad → Fits W (routes ad ns hs)

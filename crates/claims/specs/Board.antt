@@ -6,7 +6,7 @@ use Rattle.std.specs.Prelude.{ℕ, ◌+◌, ◌*◌, List, [], ◌∷◌, ◌++�
 use Rattle.route.specs.Rule.{Route, route}
 use Rattle.route.specs.Refusals.{Answer, value, refused}
 use Rattle.route.specs.Lists.{list_lookup}
-use Rattle.route.specs.declared.Route.{Route as FlatRoute}
+use Rattle.route.specs.declared.Route.{Route as RouteStruct}
 use Rattle.prefixes.specs.Prefixes.{prefixes_lookup}
 use Rattle.tcam.specs.Slots.{Cell, free, length_in, hop_in}
 use Rattle.tcam.specs.Tables.{addresses, tags}
@@ -42,11 +42,11 @@ abbrev pub found : List Route → ℕ → List ℕ
 found rs q = numbers (list_lookup 32 (map (λ r. r.address) rs) (map (λ r. r.length) rs) (map (λ r. r.hop) rs) q)
 
 -- the same over the list as one slice of prefixes
-abbrev pub prefix_of : Route → FlatRoute
-prefix_of r = record { address = r.address; length = record { 0 = r.length }; hop = record { 0 = r.hop } }
+abbrev pub struct_of : Route → RouteStruct
+struct_of r = record { prefix = record { address = r.address; length = record { 0 = r.length } }; hop = record { 0 = r.hop } }
 
 abbrev pub found_in_slice : List Route → ℕ → List ℕ
-found_in_slice rs q = numbers (prefixes_lookup 32 (map prefix_of rs) q)
+found_in_slice rs q = numbers (prefixes_lookup 32 (map struct_of rs) q)
 
 -- the writes of a plan; none where it is refused
 abbrev pub made : Planned → List Write

@@ -5,119 +5,65 @@
 // there are four sizes of it, and a short list does not pay for the longest.
 #![tactic(auto)]
 
-ghost use Rattle.std.specs.Prelude.{◌≡◌, ◌*◌, ◌≤◌, length};
-ghost use Rattle.route.specs.Refusals.{refused, size_refusal};
-ghost use Rattle.route.specs.Shown.{counted, shown};
+ghost use Rattle.std.specs.Prelude.{◌≡◌, ◌*◌, ◌≤◌, ◌<◌, length, Err};
 ghost use Rattle.route.specs.Rows.{overwritten};
+ghost use Rattle.route.specs.Shown.{counted, shown};
 ghost use Rattle.prefixes.specs.Prefixes.{prefixes_check, prefixes_lookup};
-ghost use Rattle.prefixes.specs.Queries.{three_rows, first, second, third, IsReply, IsReplyOf};
+ghost use Rattle.prefixes.specs.Queries.{three_rows, ReturnsAtRows};
 
-use route::{Counted, Found, MAX_ROUTES, Route, Refusal, list};
-
-// What a query of a list answers: the hop where an address is looked up, else the count of entries.
-#[derive(Clone, Copy)]
-struct Reply {
-    count: Counted,
-    hop: Found,
-}
+use route::{Hop, MAX_ROUTES, Refusal, Route, list};
 
 // Tests a list; refusals as of `route::list::check`.
-pub fn check(list: &[Route]) -> Counted
+pub fn check(list: &[Route]) -> Result<usize, Refusal>
     ensures { counted result ≡ prefixes_check 32 list.now }
 {
-    if list.len() <= 64 {
-        return count_of(query_64(list, false, 0));
-    }
-    count_of(query_long(list, false, 0))
+    query(list, list::check)
 }
 
 // The next hop of the longest prefix that matches q; refusals as of `check`.
-pub fn lookup(list: &[Route], q: u32) -> Found
+pub fn lookup(list: &[Route], q: u32) -> Result<Option<Hop>, Refusal>
     ensures { shown result ≡ prefixes_lookup 32 list.now q }
 {
-    if list.len() <= 64 {
-        return hop_of(query_64(list, true, q));
-    }
-    hop_of(query_long(list, true, q))
+    query(list, |addresses: &[u32], lengths: &[u32], hops: &[u32]| {
+        list::lookup(addresses, lengths, hops, q)
+    })
 }
 
-fn count_of(reply: Reply) -> Counted
-    ensures { result ≡ reply.count }
+// Queries the rows of a list of any length, or refusal 8 where it has too many entries.
+fn query<T, F: FnOnce(&[u32], &[u32], &[u32]) -> Result<T, Refusal>>(
+    list: &[Route],
+    ask: F,
+) -> Result<T, Refusal>
+    requires { F.IsAlwaysCallable ask }
+    ensures few { length list.now ≤ MAX_ROUTES → ReturnsAtRows F.FnOnce ask list.now result }
+    ensures many { MAX_ROUTES < length list.now → result ≡ Err Refusal.Size }
 {
-    reply.count
-}
-
-fn hop_of(reply: Reply) -> Found
-    ensures { result ≡ reply.hop }
-{
-    reply.hop
-}
-
-// Queries a list of any length. `check` and `lookup` do not call it for a short list, in whose frame
-// the largest array would then stand.
-fn query_long(list: &[Route], looking: bool, q: u32) -> Reply
-    ensures { IsReplyOf 32 looking list.now q result }
-{
-    if list.len() <= 256 {
-        return query_256(list, looking, q);
-    }
-    if list.len() <= 1024 {
-        return query_1024(list, looking, q);
-    }
-    if list.len() <= MAX_ROUTES {
-        return query_4096(list, looking, q);
-    }
-    too_many()
-}
-
-// The reply for a list with too many entries.
-fn too_many() -> Reply
-    ensures { (counted result.count ≡ refused size_refusal 0) × (shown result.hop ≡ refused size_refusal 0) }
-{
-    Reply {
-        count: Counted::Refused(Refusal::Size),
-        hop: Found::Refused(Refusal::Size),
+    match list.len() {
+        0..=64 => query_rows::<192, _, _>(list, ask),
+        65..=256 => query_rows::<768, _, _>(list, ask),
+        257..=1024 => query_rows::<3072, _, _>(list, ask),
+        1025..=MAX_ROUTES => query_rows::<12288, _, _>(list, ask),
+        _ => Err(Refusal::Size),
     }
 }
 
-// Queries a list of at most 64 entries.
-fn query_64(list: &[Route], looking: bool, q: u32) -> Reply
-    requires { length list.now ≤ 64 }
-    ensures { IsReplyOf 32 looking list.now q result }
+// Queries the rows of a list, which an array of so many cells has room for. It is a function of its own
+// in the compiled code, so that the array is in no frame of another size.
+#[inline(never)]
+fn query_rows<const CELLS: usize, T, F: FnOnce(&[u32], &[u32], &[u32]) -> Result<T, Refusal>>(
+    list: &[Route],
+    ask: F,
+) -> Result<T, Refusal>
+    requires room { 3 * length list.now ≤ CELLS }
+    requires small { CELLS ≤ 12288 }
+    requires callable { F.IsAlwaysCallable ask }
+    ensures { ReturnsAtRows F.FnOnce ask list.now result }
 {
-    let mut rows = [0u32; 192];
+    let n = list.len();
+    let mut rows = [0u32; CELLS];
     copy_rows(list, &mut rows);
-    query_rows(&rows, list.len(), looking, q)
-}
-
-// Queries a list of at most 256 entries.
-fn query_256(list: &[Route], looking: bool, q: u32) -> Reply
-    requires { length list.now ≤ 256 }
-    ensures { IsReplyOf 32 looking list.now q result }
-{
-    let mut rows = [0u32; 768];
-    copy_rows(list, &mut rows);
-    query_rows(&rows, list.len(), looking, q)
-}
-
-// Queries a list of at most 1,024 entries.
-fn query_1024(list: &[Route], looking: bool, q: u32) -> Reply
-    requires { length list.now ≤ 1024 }
-    ensures { IsReplyOf 32 looking list.now q result }
-{
-    let mut rows = [0u32; 3072];
-    copy_rows(list, &mut rows);
-    query_rows(&rows, list.len(), looking, q)
-}
-
-// Queries a list of at most 4,096 entries.
-fn query_4096(list: &[Route], looking: bool, q: u32) -> Reply
-    requires { length list.now ≤ 4096 }
-    ensures { IsReplyOf 32 looking list.now q result }
-{
-    let mut rows = [0u32; 12288];
-    copy_rows(list, &mut rows);
-    query_rows(&rows, list.len(), looking, q)
+    let rows = &rows[..];
+    ask(&rows[..n], &rows[n..2 * n], &rows[2 * n..3 * n])
 }
 
 // Writes the rows of a list, one behind the other, over the front of a row.
@@ -126,32 +72,9 @@ fn copy_rows(list: &[Route], rows: &mut [u32])
     ensures { rows.new ≡ overwritten (three_rows list.now) rows.old }
 {
     let n = list.len();
-    let mut i = 0;
-    while i < n {
-        let p = list[i];
-        rows[i] = p.address;
-        rows[n + i] = p.length.0;
-        rows[2 * n + i] = p.hop.0;
-        i += 1;
-    }
-}
-
-// Queries the list whose rows, of n entries each, stand one behind the other.
-fn query_rows(rows: &[u32], n: usize, looking: bool, q: u32) -> Reply
-    requires { 3 * n ≤ length rows.now }
-    ensures { IsReply 32 looking (first n rows.now) (second n rows.now) (third n rows.now) q result }
-{
-    let addresses = &rows[..n];
-    let lengths = &rows[n..2 * n];
-    let hops = &rows[2 * n..3 * n];
-    if looking {
-        return Reply {
-            count: Counted::Count(n),
-            hop: list::lookup(addresses, lengths, hops, q),
-        };
-    }
-    Reply {
-        count: list::check(addresses, lengths, hops),
-        hop: Found::Nothing,
+    for (i, r) in list.iter().enumerate() {
+        rows[i] = r.prefix.address;
+        rows[n + i] = r.prefix.length.0;
+        rows[2 * n + i] = r.hop.0;
     }
 }

@@ -4,12 +4,9 @@ use Rattle.prefixes.proofs.Rows.{filled_next, filled-all}
 use Rattle.prefixes.proofs.copy_rows.Goals as goal
 
 pub loop-i-preserved : goal.loop-i-preserved
-loop-i-preserved c = record {
-  within = omega arith;
-  stored = rw c.loop-i.invariant.stored (filled_next c.args.list.now c.args.rows.now _ c.loop-i.i (search rules));
-}
+loop-i-preserved c = rw c.loop-i.invariant (filled_next c.args.list.now c.args.rows.now _ c.loop-i.i (search rules))
 
 pub returns : goal.returns
 returns c =
     let all : c.loop-i.i ≡ length c.args.list.now = omega arith in
-    rw (c.loop-i.invariant.stored, all) (filled-all c.args.list.now c.args.rows.now (search rules))
+    rw (c.loop-i.invariant, all) (filled-all c.args.list.now c.args.rows.now (search rules))
