@@ -19,16 +19,15 @@ abbrev pub reading_by : {A : Type 0} → (A → ℕ) → Result (A × ℕ) Refus
 reading_by f (Ok p) = number (f p.0) p.1
 reading_by f (Err r) = no_number (Route.number r) (Route.place r)
 
+-- a number that was read
+abbrev pub reading_of : Result (ℕ × ℕ) Refusal → Reading
+reading_of r = reading_by (λ v. v) r
+
 abbrev pub update_of : Record → Update
-update_of (Set p) = setting (route_of p)
-update_of (Remove a n) = removal a n.0
+update_of (Set r) = setting (route_of r)
+update_of (Remove p) = removal p.address p.length.0
 
--- what a record that was read replies, with the next place
-abbrev pub reply_of : Result (Record × ℕ) Refusal → Reply
-reply_of (Ok p) = update (update_of p.0) p.1
-reply_of (Err r) = refused_at (Route.number r) (Route.place r)
-
--- and where the input may have ended
+-- a record with the next place, the end of the input, or a refusal
 abbrev pub reply : Result (Option (Record × ℕ)) Refusal → Reply
 reply (Ok None) = ended
 reply (Ok (Some p)) = update (update_of p.0) p.1

@@ -8,21 +8,20 @@
 pub mod numbers;
 pub mod reader;
 
-ghost use Rattle.std.specs.Prelude.{◌≡◌, ◌*◌, ◌^◌, ◌≤◌, ◌<◌, leb, ltb, IfOk, IfSome, IsNone};
+ghost use Rattle.std.specs.Prelude.{◌≡◌, ◌*◌, ◌^◌, ◌≤◌, ◌<◌, leb, ltb, IfOk};
 ghost use Rattle.route.specs.Rule.{span};
 ghost use Rattle.route.specs.Refusals.{fault_if, hop_fault, address_refusal, length_refusal, kind_refusal};
-ghost use Rattle.route.specs.Shown.{verdict_of};
-ghost use Rattle.records.specs.Records.{checked_at, kind_from, record_at};
-ghost use Rattle.records.specs.Shown.{kind_number, reading_by, reply, reply_of};
+ghost use Rattle.records.specs.Records.{checked_at, record_at};
+ghost use Rattle.records.specs.Shown.{kind_number, reading_of, reading_by, reply};
 
 use numbers::number_at;
-use route::{Hop, Length, Route, Refusal, rule};
+use route::{Hop, Length, Prefix, Refusal, Route, rule};
 
 // What a record asks for: the set of a prefix with its next hop, or the removal of one.
 #[derive(Clone, Copy)]
 pub enum Record {
+    Remove(Prefix),
     Set(Route),
-    Remove(u32, Length),
 }
 
 // A record's kind.
@@ -30,20 +29,6 @@ pub enum Record {
 enum Kind {
     Remove,
     Set,
-}
-
-impl Kind {
-    // The kind that a number says.
-    fn new(n: u32) -> Option<Kind>
-        ensures some { IfSome result (λ kind. kind_number kind ≡ n) }
-        ensures none { IsNone result → 1 < n }
-    {
-        match n {
-            0 => Some(Kind::Remove),
-            1 => Some(Kind::Set),
-            _ => None,
-        }
-    }
 }
 
 // What stands at a place of the bytes. Refusal 8 for a place past them; then each number is read,
@@ -57,28 +42,18 @@ pub fn record_at(bytes: &[u8], at: usize) -> Result<Option<(Record, usize)>, Ref
     if at == bytes.len() {
         return Ok(None);
     }
-    let read = record_from(bytes, at)?;
-    Ok(Some(read))
-}
-
-// A record, from its kind on.
-fn record_from(bytes: &[u8], at: usize) -> Result<(Record, usize), Refusal>
-    ensures { reply_of result ≡ kind_from 32 bytes.now at }
-{
     let (kind, next) = kind_at(bytes, at)?;
     let (length, next) = length_at(bytes, next)?;
     let (quotient, next) = quotient_at(bytes, next, length)?;
-    let address = address_of(quotient, length);
+    let prefix = Prefix {
+        address: address_of(quotient, length),
+        length,
+    };
     match kind {
-        Kind::Remove => Ok((Record::Remove(address, length), next)),
+        Kind::Remove => Ok(Some((Record::Remove(prefix), next))),
         Kind::Set => {
             let (hop, next) = hop_at(bytes, next)?;
-            let set = Route {
-                address,
-                length,
-                hop,
-            };
-            Ok((Record::Set(set), next))
+            Ok(Some((Record::Set(Route { prefix, hop }), next)))
         }
     }
 }
@@ -87,10 +62,10 @@ fn record_from(bytes: &[u8], at: usize) -> Result<(Record, usize), Refusal>
 fn kind_at(bytes: &[u8], at: usize) -> Result<(Kind, usize), Refusal>
     ensures { reading_by kind_number result ≡ checked_at bytes.now at (λ n. fault_if (ltb 1 n) kind_refusal at) }
 {
-    let (n, next) = number_at(bytes, at)?;
-    match Kind::new(n) {
-        Some(kind) => Ok((kind, next)),
-        None => Err(Refusal::Kind(at)),
+    match number_at(bytes, at)? {
+        (0, next) => Ok((Kind::Remove, next)),
+        (1, next) => Ok((Kind::Set, next)),
+        _ => Err(Refusal::Kind(at)),
     }
 }
 
@@ -109,7 +84,7 @@ fn length_at(bytes: &[u8], at: usize) -> Result<(Length, usize), Refusal>
 // The quotient at a place, of an address by the span of this length.
 fn quotient_at(bytes: &[u8], at: usize, length: Length) -> Result<(u32, usize), Refusal>
     requires { length.0 ≤ 32 }
-    ensures reading { reading_by (λ x. x) result ≡ checked_at bytes.now at (λ x. fault_if (leb (2 ^ length.0) x) address_refusal at) }
+    ensures reading { reading_of result ≡ checked_at bytes.now at (λ x. fault_if (leb (2 ^ length.0) x) address_refusal at) }
     ensures below { IfOk result (λ p. p.0 < 2 ^ length.0) }
 {
     let (x, next) = number_at(bytes, at)?;
@@ -120,6 +95,7 @@ fn quotient_at(bytes: &[u8], at: usize, length: Length) -> Result<(u32, usize), 
 }
 
 // The hop at a place.
+#[inline(always)]
 fn hop_at(bytes: &[u8], at: usize) -> Result<(Hop, usize), Refusal>
     ensures { reading_by (λ h. h.0) result ≡ checked_at bytes.now at (hop_fault at) }
 {
