@@ -1,6 +1,6 @@
--- Words say what they were made from, and keys rise as their routes are in order. So the sweep over a list's sorted keys makes its
+-- Keys say what they were made from, and they rise as their routes are in order. So the sweep over a list's sorted keys makes its
 -- merged ranges.
-use Rattle.std.proofs.Common.{◌≡◌, ℕ, zero, suc, ◌↔◌, refl, ◌+◌, ◌*◌, ◌/◌, ◌%◌, ◌<◌, ◌≤◌, List, [], ◌∷◌, length, get_or, sym, ap, ◌∙◌, subst, ap₂, arith, le-ltb}
+use Rattle.std.proofs.Common.{◌≡◌, ℕ, zero, suc, ◌↔◌, refl, ◌+◌, ◌*◌, ◌/◌, ◌%◌, ◌<◌, ◌≤◌, List, [], ◌∷◌, length, get_or, sym, ap, ◌∙◌, subst, arith, le-ltb}
 use mathlib.Core.List.Memᴰ
 use Rattle.std.specs.List.{Contains}
 use Rattle.std.specs.List.Sorted.{IsPermutation, IsSorted, IsNonDecreasing}
@@ -17,24 +17,14 @@ use Rattle.route.proofs.RouteSet.{RouteSet}
 use Rattle.route.proofs.Accepted.{accepted_set}
 use Rattle.route.proofs.Entries.{routes-addresses}
 use Rattle.route.proofs.Members.{each_at}
-use Rattle.ranges.specs.Ranges.{Range, range, ranges_of}
-use Rattle.ranges.specs.Words.{key_of, route_in, routes_in, word_of, range_in}
+use Rattle.ranges.specs.Ranges.{Range, ranges_of}
+use Rattle.ranges.specs.Words.{key_of, route_in, routes_in}
 use Rattle.ranges.specs.Sweeps.{swept_ranges}
 use Rattle.ranges.specs.Loops.{keys_of, Tested}
 use Rattle.ranges.proofs.LastMatch.{InOrder, AllInOrder}
 use Rattle.ranges.proofs.Boundaries.{Placed}
 use Rattle.ranges.proofs.RangesAgree.{ranges_same}
 use Rattle.ranges.proofs.Sweeps.{sweep_makes}
-
--- a start and a hop from their word
-word_start : (s h : ℕ) → s < 4294967296 → h < 65536 → (s * 65536 + h) / 65536 % 4294967296 ≡ s
-word_start s h l m = omega arith
-
-word_hop : (s h : ℕ) → h < 65536 → (s * 65536 + h) % 65536 ≡ h
-word_hop s h m = omega arith
-
-pub word_says : (r : Range) → r.start < 4294967296 → r.hop < 65536 → range_in (word_of r) ≡ r
-word_says r l m = ap₂ range (word_start r.start r.hop l m) (word_hop r.start r.hop m)
 
 -- the parts of a key
 key_address : (a n h : ℕ) → a < 4294967296 → n < 64 → h < 65536 → ((a * 64 + n) * 65536 + h) / 4194304 % 4294967296 ≡ a

@@ -1,4 +1,4 @@
--- A build into rows with room for any table: no refusal but the list's fault. A build by words of the table.
+-- A build into rows with room for any table: no refusal but the list's fault. A build by the table.
 use Rattle.std.proofs.Common.{◌≡◌, ltb, ◌||◌, true, false, map, sym, ap, ◌∙◌, ℕ, ◌≤◌, List, length, refl, arith, le-ltb}
 use Rattle.route.specs.Entries.{routes_of}
 use Rattle.route.specs.declared.list.List.{List as InRows}
@@ -9,7 +9,8 @@ use Rattle.route.proofs.Accepted.{rows_of_set}
 use Rattle.route.proofs.Entries.{routes-length}
 use lib.ListN.{length-map}
 use Rattle.route.specs.Rows.{overwritten}
-use Rattle.ranges.specs.Words.{range_in}
+use Rattle.ranges.specs.Shown.{range_of}
+use Rattle.ranges.specs.declared.words.Range.{Range as InCode}
 use Rattle.ranges.specs.Ranges.{max_ranges, ranges_of, starts_of, hops_of}
 use Rattle.ranges.specs.Builds.{table_of, ranges_answer, IsBuilt}
 use Rattle.ranges.proofs.RangesAgree.{ranges_few}
@@ -28,18 +29,18 @@ built-roomy W ad ns hs {a} {b} l m = of_fault (rows_fault W ad ns hs) refl
         omega (arith, ranges_few W (routes ad ns hs), routes-length ad ns hs s.equal, s.few) in
         rw (e, le-ltb a (length (table_of W ad ns hs)) (omega arith), le-ltb b (length (table_of W ad ns hs)) (omega arith))
 
--- a list that has been tested, and words of its ranges: a row is too short for them, or both are written
-module _ (l : InRows) (ws : List ℕ) (ok : Tested l) (is : map range_in ws ≡ ranges_of 32 (routes_of l)) where
-  many : length (ranges_of 32 (routes_of l)) ≡ length ws
-  many = ap length (sym is) ∙ length-map ws range_in
+-- a list that has been tested, and its ranges: a row is too short for them, or both are written
+module _ (l : InRows) (rs : List InCode) (ok : Tested l) (is : map range_of rs ≡ ranges_of 32 (routes_of l)) where
+  many : length (ranges_of 32 (routes_of l)) ≡ length rs
+  many = ap length (sym is) ∙ length-map rs range_of
 
-  pub built-short : {ss rh : List ℕ} → (ltb (length ss) (length ws) || ltb (length rh) (length ws)) ≡ true →
+  pub built-short : {ss rh : List ℕ} → (ltb (length ss) (length rs) || ltb (length rh) (length rs)) ≡ true →
       IsBuilt 32 l.addresses.now l.lengths.now l.hops.now ss rh (refused room_refusal 0) ss rh
   built-short t = record { answers = rw (ok.sound, many, t); starts = rw (ok.sound, many, t); hops = rw (ok.sound, many, t) }
 
-  pub built-whole : {ss rh ss' rh' : List ℕ} → (ltb (length ss) (length ws) || ltb (length rh) (length ws)) ≡ false →
-      ss' ≡ overwritten (starts_of (map range_in ws)) ss → rh' ≡ overwritten (hops_of (map range_in ws)) rh →
-      IsBuilt 32 l.addresses.now l.lengths.now l.hops.now ss rh (value (length ws)) ss' rh'
+  pub built-whole : {ss rh ss' rh' : List ℕ} → (ltb (length ss) (length rs) || ltb (length rh) (length rs)) ≡ false →
+      ss' ≡ overwritten (starts_of (map range_of rs)) ss → rh' ≡ overwritten (hops_of (map range_of rs)) rh →
+      IsBuilt 32 l.addresses.now l.lengths.now l.hops.now ss rh (value (length rs)) ss' rh'
   built-whole t s h = record {
     answers = rw (ok.sound, many, t);
     starts = rw (ok.sound, many, t) (rw is at s);

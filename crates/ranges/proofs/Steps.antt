@@ -1,14 +1,12 @@
--- The sweep over keys and words: the last of the ranges made, the prefix opened last, a key opened.
-use Rattle.std.proofs.Common.{◌≡◌, ℕ, zero, suc, ◌+◌, ◌-◌, ◌%◌, ◌<◌, ◌≤◌, eqb, List, [], ◌∷◌, ◌++◌, length, get_or, take, set, refl, ap, ◌∙◌, ap₂, add-one, arith, get_or-set_other, take-suc, get_or-set_same}
+-- The sweep: the last of the ranges made, the prefix opened last, a key opened.
+use Rattle.std.proofs.Common.{◌≡◌, ℕ, zero, suc, ◌+◌, ◌-◌, ◌<◌, ◌≤◌, eqb, List, [], ◌∷◌, ◌++◌, length, get_or, map, take, set, refl, ap, ◌∙◌, ap₂, add-one, arith, get_or-set_other, take-suc, get_or-set_same}
 use mathlib.Core.List.{map-append}
 use Rattle.route.specs.Loops.{before}
 use Rattle.ranges.specs.Ranges.{Range}
-use Rattle.ranges.specs.Words.{route_in, range_in, ranges_in, key_at}
+use Rattle.ranges.specs.Words.{route_in, key_at}
+use Rattle.ranges.specs.Shown.{range_of}
+use Rattle.ranges.specs.declared.words.Range.{Range as InCode}
 use Rattle.ranges.specs.Sweeps.{last_of, ends_with}
-
--- the ranges of some words, the last of them by itself
-pub ranges_in-last : (n : ℕ) (ws : List ℕ) → n < length ws → ranges_in (suc n) ws ≡ ranges_in n ws ++ (range_in (get_or ws n 0) ∷ [])
-ranges_in-last n ws l = rw (take-suc ws n 0 l) (map-append range_in (take n ws) (get_or ws n 0 ∷ []))
 
 last_of-last : (h : ℕ) (rs : List Range) (r : Range) → last_of h (rs ++ (r ∷ [])) ≡ r.hop
 last_of-last h [] r = refl
@@ -18,11 +16,14 @@ ends_with-last : (rs : List Range) (r : Range) (h : ℕ) → ends_with (rs ++ (r
 ends_with-last [] r h = refl
 ends_with-last (s ∷ rs) r h = ap (λ (g : ℕ). eqb g h) (last_of-last s.hop rs r)
 
-pub ends_with-word : (n : ℕ) (ws : List ℕ) (h : ℕ) → 0 < n → n ≤ length ws →
-    ends_with (ranges_in n ws) h ≡ eqb (get_or ws (n - 1) 0 % 65536) h
-ends_with-word n ws h pos l =
+-- so for the first of a row
+pub ends_with-front : (n : ℕ) (rs : List InCode) (d : InCode) (h : ℕ) → 0 < n → n ≤ length rs →
+    ends_with (map range_of (take n rs)) h ≡ eqb (range_of (get_or rs (n - 1) d)).hop h
+ends_with-front n rs d h pos l =
     let e : n ≡ suc (n - 1) = omega arith in
-    (rw (← e) at (ap (λ t. ends_with t h) (ranges_in-last (n - 1) ws (omega arith)))) ∙ ends_with-last (ranges_in (n - 1) ws) (range_in (get_or ws (n - 1) 0)) h
+    let front : map range_of (take n rs) ≡ map range_of (take (n - 1) rs) ++ (range_of (get_or rs (n - 1) d) ∷ []) =
+    ap (λ (k : ℕ). map range_of (take k rs)) e ∙ rw (take-suc rs (n - 1) d (omega arith)) (map-append range_of (take (n - 1) rs) (get_or rs (n - 1) d ∷ [])) in
+    rw front (ends_with-last (map range_of (take (n - 1) rs)) (range_of (get_or rs (n - 1) d)) h)
 
 -- what stands before a place, the nearest by itself
 pub before_last : {A : Type 0} (at : ℕ → A) (n : ℕ) → 0 < n → before at n ≡ at (n - 1) ∷ before at (n - 1)

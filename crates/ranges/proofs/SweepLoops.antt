@@ -1,5 +1,5 @@
 -- The sweep's loops: what is still open, and the keys that are left, give what the whole gives.
-use Rattle.std.proofs.Common.{◌≡◌, ℕ, ◌+◌, ◌-◌, ◌*◌, ◌<◌, ◌≤◌, true, List, [], ◌∷◌, length, drop, set, sym, ap, ◌∙◌, add-one, arith, drop-cons, drop_of_length-le}
+use Rattle.std.proofs.Common.{◌≡◌, ℕ, ◌+◌, ◌-◌, ◌<◌, ◌≤◌, true, List, [], ◌∷◌, length, drop, set, ap, ◌∙◌, arith}
 use Rattle.route.specs.Rule.{Route}
 use Rattle.route.specs.Loops.{before}
 use Rattle.ranges.specs.Ranges.{Range, past_end}
@@ -31,13 +31,13 @@ pub record SweptTo (keys₀ : List ℕ) (s : CodeSweep) : Type 0 where
 module _ {x : ℕ} {s₀ s u t : CodeSweep} (h : ClosingAt x s₀ s) (on : SameKeys s u) (off : SameKeys u t) where
   module _ (opened : (u.opened ≡ s.opened) × (u.made ≤ s.made + 1)) (closed : (t.opened ≡ u.opened - 1) × (t.reached ≡ u.reached) × (t.made ≡ u.made)) where
     pub closing-turn : 0 < s.opened → {r : Route} → r ≡ key_at s.keys.now (s.opened - 1) → ends_by 32 x r ≡ true →
-        {y : ℕ} → y ≡ past_end 32 r → sweep_of u ≡ advanced y (sweep_of s) → t.words.now ≡ u.words.now → ClosingAt x s₀ t
-    closing-turn pos is e past go words = record {
-      same = record { keys = off.keys ∙ on.keys ∙ h.same.keys; read = off.read ∙ on.read ∙ h.same.read; words = off.words ∙ on.words ∙ h.same.words };
+        {y : ℕ} → y ≡ past_end 32 r → sweep_of u ≡ advanced y (sweep_of s) → t.ranges.now ≡ u.ranges.now → ClosingAt x s₀ t
+    closing-turn pos is e past go ranges = record {
+      same = record { keys = off.keys ∙ on.keys ∙ h.same.keys; read = off.read ∙ on.read ∙ h.same.read; ranges = off.ranges ∙ on.ranges ∙ h.same.ranges };
       fewer = omega (arith, h.fewer, opened, closed);
       load = omega (arith, h.load, opened, closed);
       room = h.room;
-      left = rw (off.keys, on.keys, closed.0, closed.1, closed.2, words, opened.0)
+      left = rw (off.keys, on.keys, closed.0, closed.1, closed.2, ranges, opened.0)
           (turn 32 x (key_at s.keys.now) s.opened s.reached (sweep_of s).made pos (sweep_of u) (rw is at e) (rw (past, is) at go))
           ∙ h.left;
     }

@@ -81,6 +81,10 @@ abbrev pub hop_at : ℕ → List Range → ℕ → ℕ
 hop_at h [] q = h
 hop_at h (r ∷ rs) q = cond (nat_le r.start q) (hop_at r.hop rs q) h
 
+-- look q up in a table: refusal 7, or the hop
+abbrev pub table_lookup : List Range → ℕ → Answer
+table_lookup t q = unless_fault (table_fault t) (value (hop_at 0 t q))
+
 -- look q up: refusals 8 and 7, or the hop
 abbrev pub range_lookup : List ℕ → List ℕ → ℕ → Answer
 range_lookup ss hs q = unless_fault (size_fault ss hs then table_fault (ranges ss hs)) (value (hop_at 0 (ranges ss hs) q))

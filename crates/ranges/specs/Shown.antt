@@ -1,5 +1,4 @@
 -- The specification's values for the code's types: a range.
-use Rattle.std.specs.Prelude.{ℕ}
 use Rattle.route.specs.Shown.{hop_number}
 use Rattle.ranges.specs.Ranges.{Range, range}
 use Rattle.ranges.specs.declared.words.Range.{Range as CodeRange}

@@ -7,13 +7,13 @@ ghost use Rattle.std.specs.Prelude.{◌≡◌, ◌*◌, ◌<◌, ◌≤◌, map,
 ghost use Rattle.route.specs.Entries.{routes_of};
 ghost use Rattle.route.specs.Shown.{counted};
 ghost use Rattle.route.specs.Rows.{overwritten};
-ghost use Rattle.ranges.specs.Ranges.{starts_of, hops_of};
-ghost use Rattle.ranges.specs.Words.{range_in};
+ghost use Rattle.ranges.specs.Ranges.{max_ranges, starts_of, hops_of};
+ghost use Rattle.ranges.specs.Shown.{range_of};
 ghost use Rattle.ranges.specs.Builds.{IsBuilt};
 ghost use Rattle.ranges.specs.Loops.{keys_of, Tested};
 
 use crate::sweep::Sweep;
-use crate::words::{key_of, range_of};
+use crate::words::{Range, key_of};
 use route::list::List;
 use route::{Hop, Refusal};
 
@@ -27,35 +27,34 @@ fn pack(list: &List, keys: &mut [u64])
     }
 }
 
-// Writes the ranges of some words to the front of two rows.
-fn write_rows(words: &[u64], starts: &mut [u32], range_hops: &mut [u32])
-    requires { (length words.now ≤ length starts.old) × (length words.now ≤ length range_hops.old) }
-    ensures starts_after { starts.new ≡ overwritten (starts_of (map range_in words.now)) starts.old }
-    ensures range_hops_after { range_hops.new ≡ overwritten (hops_of (map range_in words.now)) range_hops.old }
+// Writes ranges to the front of two rows.
+fn write_rows(ranges: &[Range], starts: &mut [u32], range_hops: &mut [u32])
+    requires { (length ranges.now ≤ length starts.old) × (length ranges.now ≤ length range_hops.old) }
+    ensures starts_after { starts.new ≡ overwritten (starts_of (map range_of ranges.now)) starts.old }
+    ensures range_hops_after { range_hops.new ≡ overwritten (hops_of (map range_of ranges.now)) range_hops.old }
 {
-    for (i, word) in words.iter().enumerate() {
-        let r = range_of(*word);
+    for (i, r) in ranges.iter().enumerate() {
         starts[i] = r.start;
         range_hops[i] = Hop::number_of(r.hop);
     }
 }
 
-// The build of a list that has been tested, with scratch: a key for each entry, room for the words of
-// as many ranges as there can be.
+// The build of a list that has been tested, with scratch: a key for each entry, room for as many
+// ranges as there can be.
 fn build_in(
     list: &List,
     starts: &mut [u32],
     range_hops: &mut [u32],
     keys: &mut [u64],
-    words: &mut [u64],
+    ranges: &mut [Range],
 ) -> Result<usize, Refusal>
     requires tested { Tested list.now }
-    requires keys_len { (length keys.old ≡ length list.now.addresses.now) × (2 * length keys.old < length words.old) }
+    requires keys_len { (length keys.old ≡ length list.now.addresses.now) × (2 * length keys.old < length ranges.old) }
     ensures { IsBuilt 32 list.now.addresses.now list.now.lengths.now list.now.hops.now starts.old range_hops.old (counted result) starts.new range_hops.new }
 {
     pack(list, keys);
     keys.sort_unstable();
-    let made = Sweep::new(keys, words).run();
+    let made = Sweep::new(keys, ranges).run();
     if (starts.len() < made.len()) | (range_hops.len() < made.len()) {
         return Err(Refusal::Room);
     }
@@ -63,20 +62,29 @@ fn build_in(
     Ok(made.len())
 }
 
-// The same with scratch of so many keys and words.
+// The same with scratch of so many keys and ranges.
 #[inline(never)]
-fn build_with<const KEYS: usize, const WORDS: usize>(
+fn build_with<const KEYS: usize, const RANGES: usize>(
     list: &List,
     starts: &mut [u32],
     range_hops: &mut [u32],
 ) -> Result<usize, Refusal>
     requires tested { Tested list.now }
-    requires scratch { (length list.now.addresses.now ≤ KEYS) × (2 * KEYS < WORDS) × (WORDS ≤ 8193) }
+    requires scratch { (length list.now.addresses.now ≤ KEYS) × (2 * KEYS < RANGES) × (RANGES ≤ max_ranges) }
     ensures { IsBuilt 32 list.now.addresses.now list.now.lengths.now list.now.hops.now starts.old range_hops.old (counted result) starts.new range_hops.new }
 {
     let mut keys = [0; KEYS];
-    let mut words = [0; WORDS];
-    build_in(list, starts, range_hops, &mut keys[..list.len()], &mut words)
+    let mut ranges = [Range {
+        start: 0,
+        hop: None,
+    }; RANGES];
+    build_in(
+        list,
+        starts,
+        range_hops,
+        &mut keys[..list.len()],
+        &mut ranges,
+    )
 }
 
 // Builds the merged ranges of a list in the front of two rows: how many there are, or refusals 8, 1

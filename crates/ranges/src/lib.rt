@@ -3,7 +3,7 @@
 
 pub mod build;
 pub mod lookup;
-pub mod sweep;
+mod sweep;
 pub mod words;
 
 ghost use Rattle.std.specs.Prelude.{◌≡◌, ◌≤◌, if◌then◌else◌};
@@ -15,5 +15,5 @@ pub const MAX_RANGES: usize = 8193;
 pub fn one_if(t: bool) -> u32
     ensures { (result ≡ (if t then 1 else 0)) × (result ≤ 1) }
 {
-    if t { 1 } else { 0 }
+    t as u32
 }

@@ -6,42 +6,42 @@
 ghost use Rattle.std.specs.Prelude.{◌≡◌, ◌+◌, ◌-◌, ◌*◌, ◌<◌, ◌≤◌, length, drop, map, IfSome, IfNone};
 ghost use Rattle.route.specs.Shown.{hop_number, route_of};
 ghost use Rattle.ranges.specs.Ranges.{past_end};
-ghost use Rattle.ranges.specs.Words.{key_at, routes_in, range_in, ranges_in};
+ghost use Rattle.ranges.specs.Words.{key_at, routes_in};
 ghost use Rattle.ranges.specs.Sweeps.{ends_with, joined, open_hop, extended, advanced, ends_by, closed_by, opening, swept_ranges};
 
-use crate::words::{Range, prefix_of, range_of, word_of};
+use crate::words::{Range, route_from};
 use route::rule::span_of;
 use route::{Hop, Route};
 use std::num::wrapping_add_u32;
 
 // A sweep over keys: how many are read, how many of these prefixes are open, the address up to which
-// ranges are made, and how many words of ranges there are.
+// ranges are made, and how many there are.
 #[derive(Drop)]
-pub struct Sweep<'a> {
-    pub keys: &'a mut [u64],
-    pub words: &'a mut [u64],
-    pub read: usize,
-    pub opened: usize,
-    pub reached: u32,
-    pub made: usize,
+pub(crate) struct Sweep<'a> {
+    keys: &'a mut [u64],
+    ranges: &'a mut [Range],
+    read: usize,
+    opened: usize,
+    reached: u32,
+    made: usize,
     ghost stack: { (opened ≤ read) × (read ≤ length keys.now) },
-    ghost room: { made + opened + 2 * (length keys.now - read) ≤ length words.now },
+    ghost room: { made + opened + 2 * (length keys.now - read) ≤ length ranges.now },
 }
 
 // One past the last address of a prefix; past the last address of all it is 0.
-fn past_end(p: Route) -> u32
-    ensures { result ≡ past_end 32 (route_of p) }
+fn past_end(r: Route) -> u32
+    ensures { result ≡ past_end 32 (route_of r) }
 {
-    let span = span_of(p.length);
-    let last = wrapping_add_u32(p.address, (span - 1) as u32);
+    let span = span_of(r.prefix.length);
+    let last = wrapping_add_u32(r.prefix.address, (span - 1) as u32);
     wrapping_add_u32(last, 1)
 }
 
 // Whether a prefix ends at x or before: where the one past its end is 0 it never does.
-fn ends_by(p: Route, x: u32) -> bool
-    ensures { result ≡ ends_by 32 x (route_of p) }
+fn ends_by(r: Route, x: u32) -> bool
+    ensures { result ≡ ends_by 32 x (route_of r) }
 {
-    let past = past_end(p);
+    let past = past_end(r);
     !(past == 0) & (past <= x)
 }
 
@@ -50,14 +50,14 @@ impl<'a> Sweep<'a> {
     ghost use Rattle.ranges.specs.Sweeping.{sweep_of, HasRoom, Starts, SameKeys};
 
     // A sweep over these keys.
-    pub(crate) fn new(keys: &'a mut [u64], words: &'a mut [u64]) -> Sweep<'a>
-        requires { 2 * length keys.old < length words.old }
+    pub(crate) fn new(keys: &'a mut [u64], ranges: &'a mut [Range]) -> Sweep<'a>
+        requires { 2 * length keys.old < length ranges.old }
         ensures starts { Starts result }
         ensures keys { result.keys.now ≡ keys.old }
     {
         Sweep {
             keys,
-            words,
+            ranges,
             read: 0,
             opened: 0,
             reached: 0,
@@ -65,25 +65,22 @@ impl<'a> Sweep<'a> {
         }
     }
 
-    // The prefix opened last.
+    // The route whose prefix was opened last.
     fn last(&self) -> Option<Route>
-        ensures some { IfSome result (λ p. (0 < self.now.opened) × (route_of p ≡ key_at self.now.keys.now (self.now.opened - 1))) }
+        ensures some { IfSome result (λ r. (0 < self.now.opened) × (route_of r ≡ key_at self.now.keys.now (self.now.opened - 1))) }
         ensures none { IfNone result (self.now.opened ≡ 0) }
     {
         if self.opened == 0 {
             return None;
         }
-        Some(prefix_of(self.keys[self.opened - 1]))
+        Some(route_from(self.keys[self.opened - 1]))
     }
 
     // The hop of the prefix opened last, none where none is open.
     fn open_hop(&self) -> Option<Hop>
         ensures { hop_number result ≡ open_hop (sweep_of self.now).opened }
     {
-        match self.last() {
-            None => None,
-            Some(p) => Hop::new(p.hop.0),
-        }
+        self.last().map(|r| r.hop)
     }
 
     // Whether the last of the ranges has this hop.
@@ -93,7 +90,7 @@ impl<'a> Sweep<'a> {
         if self.made == 0 {
             return false;
         }
-        let last = range_of(self.words[self.made - 1]);
+        let last = self.ranges[self.made - 1];
         Hop::number_of(last.hop) == Hop::number_of(hop)
     }
 
@@ -101,16 +98,16 @@ impl<'a> Sweep<'a> {
     // the last of the ranges has this hop.
     fn extend(&mut self)
         requires { HasRoom self.old }
-        ensures made { ranges_in self.new.made self.new.words.now ≡ extended (sweep_of self.old) }
+        ensures made { (sweep_of self.new).made ≡ extended (sweep_of self.old) }
         ensures same { SameKeys self.old self.new }
         ensures rest { (self.new.opened ≡ self.old.opened) × (self.new.reached ≡ self.old.reached) × (self.new.made ≤ self.old.made + 1) }
     {
         let hop = self.open_hop();
         if !self.ends_with(hop) {
-            self.words[self.made] = word_of(Range {
+            self.ranges[self.made] = Range {
                 start: self.reached,
                 hop,
-            });
+            };
             self.made += 1;
         }
     }
@@ -135,11 +132,11 @@ impl<'a> Sweep<'a> {
         ensures same { SameKeys self.old self.new }
         ensures rest { (self.new.opened ≤ self.old.opened) × (self.new.made + self.new.opened ≤ self.old.made + self.old.opened) }
     {
-        while let Some(p) = self.last() {
-            if !ends_by(p, x) {
+        while let Some(r) = self.last() {
+            if !ends_by(r, x) {
                 return;
             }
-            self.advance(past_end(p));
+            self.advance(past_end(r));
             self.opened -= 1;
         }
     }
@@ -153,25 +150,25 @@ impl<'a> Sweep<'a> {
         ensures read { (self.new.read ≡ self.old.read + 1) × (length self.new.keys.now ≡ length self.old.keys.now) × HasRoom self.new }
     {
         let key = self.keys[self.read];
-        let next = prefix_of(key);
-        self.close_by(next.address);
-        self.advance(next.address);
+        let next = route_from(key).prefix.address;
+        self.close_by(next);
+        self.advance(next);
         self.read += 1;
         self.keys[self.opened] = key;
         self.opened += 1;
     }
 
-    // The words of the merged ranges of the keys' prefixes. The keys are sorted.
-    pub(crate) fn run(mut self) -> &'a [u64]
+    // The merged ranges of the keys' prefixes. The keys are sorted.
+    pub(crate) fn run(mut self) -> &'a [Range]
         requires { Starts self }
-        ensures { map range_in result.now ≡ swept_ranges 32 (routes_in self.entry.keys.now) }
+        ensures { map range_of result.now ≡ swept_ranges 32 (routes_in self.entry.keys.now) }
     {
         while self.read < self.keys.len() {
             self.open_next();
         }
         self.close_by(u32::MAX);
         self.extend();
-        let Sweep { words, made, .. } = self;
-        &words[..made]
+        let Sweep { ranges, made, .. } = self;
+        &ranges[..made]
     }
 }

@@ -2,13 +2,13 @@
 use Rattle.std.proofs.Common.{◌≡◌, map}
 use Rattle.route.specs.Entries.{routes_of}
 use Rattle.ranges.specs.Ranges.{ranges_of}
-use Rattle.ranges.specs.Words.{range_in}
+use Rattle.ranges.specs.Shown.{range_of}
 use Rattle.ranges.proofs.Packing.{list-made}
 use Rattle.ranges.proofs.Rooms.{built-short, built-whole}
 use Rattle.ranges.proofs.build.build_in.Goals as goal
 use Rattle.ranges.proofs.build.build_in.Goals.{After-run-made}
 
-made : (c : After-run-made) → map range_in c.run-made.result.now ≡ ranges_of 32 (routes_of c.args.list.now)
+made : (c : After-run-made) → map range_of c.run-made.result.now ≡ ranges_of 32 (routes_of c.args.list.now)
 made c = list-made c.requires.tested c.pack.ensures c.sort_unstable.ensures.permutation c.sort_unstable.ensures.sorted c.new.ensures.keys c.run-made.ensures
 
 pub returns-then-starts-made : goal.returns-then-starts-made

@@ -1,6 +1,8 @@
--- The cell at a place is the start, or the hop, of the range that the word there says.
-use Rattle.std.proofs.Common.{ℕ, sym, refl, ap, ◌∙◌, ◌<◌, length, arith}
+-- The cell at a place is the start, or the hop, of the range there.
+use Rattle.std.proofs.Common.{ℕ, sym, refl, ◌∙◌, arith}
 use Rattle.ranges.specs.Ranges.{Range}
+use Rattle.std.specs.Prelude.{None}
+use Rattle.ranges.specs.declared.words.Range.{Range as InCode}
 use Rattle.route.proofs.Fills.{fill_start, fill-turn, fill_end}
 use Rattle.ranges.proofs.Fills.{part_at, parts-length}
 use Rattle.ranges.proofs.build.write_rows.Goals as goal
@@ -12,19 +14,22 @@ start r = r.start
 abbrev hop : Range → ℕ
 hop r = r.hop
 
+-- a range whose parts are 0
+abbrev none : InCode
+none = record { start = 0; hop = None }
+
 pub loop-i-init : goal.loop-i-init
-loop-i-init c = (fill_start (omega (arith, parts-length start c.args.words.now)), fill_start (omega (arith, parts-length hop c.args.words.now)))
+loop-i-init c = (fill_start (omega (arith, parts-length start c.args.ranges.now)), fill_start (omega (arith, parts-length hop c.args.ranges.now)))
 
 pub loop-i-preserved : goal.loop-i-preserved
 loop-i-preserved c =
-    let ws = c.args.words.now in
-    let is = c.range_of-r.ensures in (
-      fill-turn c.loop-i.invariant.0 (omega (arith, parts-length start ws)) (ap start is ∙ sym (part_at start refl ws c.loop-i.i)),
-      fill-turn c.loop-i.invariant.1 (omega (arith, parts-length hop ws)) (c.number_of.ensures ∙ ap hop is ∙ sym (part_at hop refl ws c.loop-i.i)),
+    let rs = c.args.ranges.now in (
+      fill-turn c.loop-i.invariant.0 (omega (arith, parts-length start rs)) (sym (part_at start rs none c.loop-i.i refl)),
+      fill-turn c.loop-i.invariant.1 (omega (arith, parts-length hop rs)) (c.number_of.ensures ∙ sym (part_at hop rs none c.loop-i.i refl)),
     )
 
 pub returns-clause-starts_after : goal.returns-clause-starts_after
-returns-clause-starts_after c = fill_end c.loop-i.invariant.0 (omega (arith, parts-length start c.args.words.now))
+returns-clause-starts_after c = fill_end c.loop-i.invariant.0 (omega (arith, parts-length start c.args.ranges.now))
 
 pub returns-clause-range_hops_after : goal.returns-clause-range_hops_after
-returns-clause-range_hops_after c = fill_end c.loop-i.invariant.1 (omega (arith, parts-length hop c.args.words.now))
+returns-clause-range_hops_after c = fill_end c.loop-i.invariant.1 (omega (arith, parts-length hop c.args.ranges.now))

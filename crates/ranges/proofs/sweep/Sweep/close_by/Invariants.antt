@@ -2,8 +2,8 @@
 use Rattle.ranges.proofs.SweepLoops.{ClosingAt}
 use Rattle.ranges.proofs.sweep.Sweep.close_by.Given as goal
 
-abbrev pub invariant-loop-p : goal.invariant-loop-p
-invariant-loop-p l = ClosingAt l.x l.initial.self l.self
+abbrev pub invariant-loop-r : goal.invariant-loop-r
+invariant-loop-r l = ClosingAt l.x l.initial.self l.self
 
-abbrev pub decreases-loop-p : goal.decreases-loop-p
-decreases-loop-p l = l.self.opened
+abbrev pub decreases-loop-r : goal.decreases-loop-r
+decreases-loop-r l = l.self.opened
