@@ -1,14 +1,14 @@
 -- The entries that a chunk's ranges make, and their words, by place; whether all are short; what is stored of them.
 use Prim.Native.Nat.{ℕ, zero, suc, ◌+◌, ◌-◌, ◌*◌, ◌%◌, ◌≤◌, ◌<◌}
 use mathlib.Core.Path.{◌≡◌, refl, sym, ◌∙◌, ap}
-use mathlib.Core.Bool.{Bool, true, ◌&&◌}
+use mathlib.Core.Bool.{true, ◌&&◌}
 use mathlib.Core.List.{List, [], ◌∷◌}
 use native.Mathlib.Omega.{arith}
 use borrow.Rule.Slice.PartMut.{put_mid}
 use native.Mathlib.Numerals.{add-one}
 use lib.ListN.{length, get_or, take, drop, length-drop, length-map, get_or-map, get_or-eq_default}
 use lib.Dec.{eqb, leb}
-use lib.Seq.{sets, drop-cons, length-take-le}
+use lib.Seq.{drop-cons, length-take-le}
 use Rattle.std.specs.Prelude.{Option}
 use Rattle.route.specs.Limits.{max_hop}
 use Rattle.route.specs.declared.Hop.{Hop}

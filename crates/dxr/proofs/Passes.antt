@@ -20,7 +20,7 @@ use Rattle.dxr.specs.Chunks.{entries_in}
 use Rattle.dxr.specs.declared.build.Next.{Next}
 use Rattle.dxr.specs.declared.main_word.MainWord.{MainWord}
 use Rattle.dxr.proofs.Fills.{sets_more, sets-front, filled-part}
-use Rattle.dxr.proofs.DxrTable.{chunk_there, fit, stands, main_length}
+use Rattle.dxr.proofs.DxrTable.{fit, stands, main_length}
 use Rattle.ranges.proofs.Rows.{ranges-length}
 use Rattle.dxr.proofs.Chunks.{chunk_few}
 use Rattle.dxr.proofs.Entries.{main-number, main-many, main-sound}

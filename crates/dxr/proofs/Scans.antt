@@ -1,5 +1,5 @@
 -- The lookup's pass over a part: the entry at each place, what the pass finds of the entries, and that this gives the answer.
-use Prim.Native.Nat.{ℕ, zero, suc, ◌+◌, ◌*◌, ◌/◌, ◌%◌, ◌≤◌, ◌<◌}
+use Prim.Native.Nat.{ℕ, zero, suc, ◌+◌, ◌-◌, ◌*◌, ◌/◌, ◌%◌, ◌≤◌, ◌<◌}
 use mathlib.Core.Path.{◌≡◌, refl, sym, ◌∙◌, ap}
 use mathlib.Core.Bool.{Bool, true, false, cond, ◌&&◌, and_assoc, and-true}
 use mathlib.Core.List.{List, [], ◌∷◌}
@@ -7,8 +7,8 @@ use native.Mathlib.Omega.{arith}
 use native.Mathlib.Numerals.{add-one}
 use borrow.Author.Tests.{eqb-true, lt-ltb, le-leb}
 use lib.Dec.{eqb, leb, ltb}
-use lib.ListN.{length, get_or, drop, length-drop, drop_of_length-le, get_or-map}
-use lib.Seq.{drop-cons, get_or-take, length-take-le}
+use lib.ListN.{length, get_or, take, drop, length-drop, drop_of_length-le, get_or-map}
+use lib.Seq.{drop-cons, get_or-take, get_or-drop, length-take-le}
 use Rattle.route.specs.Refusals.{value}
 use Rattle.route.proofs.Tests.{orders, by_test, and_parts, all_three}
 use Rattle.ranges.specs.Ranges.{Range, range, hop_at}
@@ -88,6 +88,16 @@ lower-at part k =
     let w : (2 * k + 1) / 2 ≡ k = omega arith in
     let e : (2 * k + 1) % 2 ≡ 1 = omega arith in
     rw (w, e)
+
+-- the words of a part behind the first
+module _ (part : List ℕ) (n : ℕ) (l : n ≤ length part) where
+  pub rest-length : length (take (n - 1) (drop 1 part)) ≡ n - 1
+  rest-length = length-take-le (n - 1) (drop 1 part) (simp length-drop (omega arith))
+
+  pub rest-get : (k : ℕ) → k < length (take (n - 1) (drop 1 part)) → get_or (take (n - 1) (drop 1 part)) k 0 ≡ get_or part (k + 1) 0
+  rest-get k m =
+      let e : 1 + k ≡ k + 1 = omega arith in
+      get_or-take (n - 1) (drop 1 part) k 0 (omega (arith, rest-length)) ∙ get_or-drop 1 part k 0 ∙ ap (λ i. get_or part i 0) e
 
 -- p is the pass over the entries before entry i: with those from it on it has the rules and the count of all
 pub record PassedTo (size key : ℕ) (es : List Range) (p : Pass) (i : ℕ) : Type 0 where

@@ -6,10 +6,11 @@
 #![tactic(auto)]
 
 pub mod build;
-pub mod chunk;
 pub mod lookup;
-pub mod main_word;
-pub mod rows;
+
+mod chunk;
+mod main_word;
+mod rows;
 
 // The words of a main table: one for each chunk.
 pub const MAIN_WORDS: usize = 65536;

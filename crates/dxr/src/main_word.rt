@@ -39,8 +39,8 @@ impl Form {
         ensures bound { result ≤ count }
     {
         match self {
-            Form::Long => count,
             Form::Short => (count + 1) / 2,
+            Form::Long => count,
         }
     }
 }
@@ -53,15 +53,15 @@ impl MainWord {
         if word <= MAX_HOP {
             return Some(MainWord::Direct(Hop::new(word)));
         }
+        let count = (word / 65536 % 16384) as usize;
+        if count < 2 {
+            return None;
+        }
         let form = match word / 1073741824 {
             1 => Form::Long,
             2 => Form::Short,
             _ => return None,
         };
-        let count = (word / 65536 % 16384) as usize;
-        if count < 2 {
-            return None;
-        }
         let position = (word % 65536) as usize;
         Some(MainWord::Pointer(Part {
             form,

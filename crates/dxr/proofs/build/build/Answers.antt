@@ -1,5 +1,6 @@
 -- The list's fault, or the table of the list's ranges.
 use Rattle.std.proofs.Common.{◌≤◌, ap, arith}
+use Rattle.std.proofs.lemmas.Result.{err_from_is_err_and}
 use Rattle.route.specs.Shown.{counted}
 use Rattle.ranges.specs.Ranges.{max_ranges}
 use Rattle.dxr.proofs.DxrTable.{split-16}
@@ -11,7 +12,9 @@ roomy : max_ranges ≤ 8193
 roomy = omega arith
 
 pub returns-in_err-n : goal.returns-in_err-n
-returns-in_err-n c = built-refused c.if-main-ne-MAIN_WORDS.false (made_fault roomy roomy c.build.ensures (ap counted c.in_err-n.was))
+returns-in_err-n c =
+    let p = err_from_is_err_and c.from_residual.result c.from_residual.ensures.1 in
+    rw (p.1, p.2) (built-refused c.if-main-ne-MAIN_WORDS.false (made_fault roomy roomy c.build.ensures (ap counted c.in_err-n.was)))
 
 pub split-requires : goal.split-requires
 split-requires c = (

@@ -1,5 +1,5 @@
 -- The chunk in which the next range starts has the ranges from the last that starts at or before its first address to the last in it.
-use Rattle.std.proofs.Common.{◌+◌, ◌*◌, ◌/◌, ◌<◌, refl, ◌∙◌, ap₂, arith, rules, length, get_or}
+use Rattle.std.proofs.Common.{◌+◌, ◌*◌, ◌/◌, refl, ◌∙◌, ap₂, arith, rules, get_or}
 use Rattle.dxr.specs.Loops.{entries_from}
 use Rattle.dxr.proofs.Parts.{chunk_part, last_later}
 use Rattle.dxr.proofs.build.next_chunk.Goals as goal

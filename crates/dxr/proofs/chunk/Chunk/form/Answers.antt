@@ -1,5 +1,5 @@
 -- Entry i and those behind it decide.
-use Rattle.std.proofs.Common.{sym, ◌∙◌, arith, ◌<◌, length}
+use Rattle.std.proofs.Common.{arith}
 use Rattle.dxr.specs.Chunks.{entries_in}
 use Rattle.dxr.proofs.Entries.{short-turn}
 use Rattle.dxr.proofs.chunk.Chunk.form.Goals as goal

@@ -1,6 +1,5 @@
 -- The entry's bits, or 0 behind the last.
-use Rattle.std.proofs.Common.{◌≡◌, ap, refl, arith, rules, get_or}
-use Rattle.ranges.specs.Ranges.{range}
+use Rattle.std.proofs.Common.{ap, refl, arith, rules}
 use Rattle.dxr.specs.Dxr.{short_entry}
 use Rattle.dxr.specs.Chunks.{entries_in}
 use Rattle.dxr.proofs.Entries.{fits-at, short-at, entry-none}

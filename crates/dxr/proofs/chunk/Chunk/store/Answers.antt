@@ -1,8 +1,5 @@
 -- Nothing but the hop, or the chunk's words behind those that are used.
-use Rattle.std.proofs.Common.{◌∙◌, sym, ap, arith, rules}
-use Rattle.dxr.specs.Shown.{is_short_form}
-use Rattle.dxr.specs.Chunks.{entries_in}
-use Rattle.dxr.specs.Dxr.{part_length}
+use Rattle.std.proofs.Common.{rules}
 use Rattle.dxr.proofs.Entries.{stored-one, stored-form, stored-end, stored-size, stored-many}
 use Rattle.dxr.proofs.chunk.Chunk.store.Goals as goal
 

@@ -1,5 +1,5 @@
 -- Two halves, or an entry, by the form.
-use Rattle.std.proofs.Common.{◌+◌, ◌*◌, ◌≡◌, sym, ◌∙◌, ap, ap₂, rules, refl, length, arith}
+use Rattle.std.proofs.Common.{◌+◌, ◌*◌, sym, ◌∙◌, ap, ap₂, rules, arith}
 use Rattle.dxr.specs.Dxr.{long_entry}
 use Rattle.dxr.specs.Chunks.{entries_in}
 use Rattle.dxr.proofs.Entries.{entries-length, fits-at, long-get, short-get}
