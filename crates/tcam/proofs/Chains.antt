@@ -9,8 +9,8 @@ use Rattle.tcam.specs.Shown.{place_of}
 use lib.Seq.{sets}
 use Rattle.tcam.specs.Slots.{Cell, cells, free, max_slots}
 use Rattle.tcam.specs.Plans.{Write, first_slot, last_slot, open_after, is_some, chain, numbers}
-use Rattle.tcam.specs.Loops.{edge, edge_of, lengths_from, moves}
-use Rattle.tcam.specs.InTurn.{lengths_of, chain_of}
+use Rattle.tcam.specs.Loops.{edge, lengths_from}
+use Rattle.tcam.specs.InTurn.{lengths_of}
 use Rattle.tcam.specs.declared.plan.Lengths.{Lengths}
 use Rattle.tcam.proofs.Rows.{length-cells}
 
@@ -46,21 +46,27 @@ open-within up p cs s l = go (edge up p cs) (edge-within up p cs)
     go none h = l
     go (some t) h = h t refl
 
--- and of its rows
-module _ (up : Bool) (p : Cell → Bool) (ad ts : List ℕ) (e : length ad ≡ length ts) (s : ℕ) where
-  pub edge-bound : some s ≡ edge up p (cells ad ts) → s < length ad
-  edge-bound f = omega (arith, edge-within up p (cells ad ts) s f, length-cells ad ts e)
-
-  pub open-bound : s < length ad → open_after s (edge up p (cells ad ts)) < length ad
-  open-bound l = rw (length-cells ad ts e) at (open-within up p (cells ad ts) s (rw (length-cells ad ts e) l))
-
--- a slot that was found by an edge is in the table
+-- and of its rows, where the code found it
 pub inside-table : (up : Bool) (p : Cell → Bool) (ad ts : List ℕ) → length ad ≡ length ts → (o : Optional Slot) → place_of o ≡ edge up p (cells ad ts) →
     IfSome o (λ s. s.0 < length ad)
 inside-table up p ad ts e None f = tt
-inside-table up p ad ts e (Some s) f = edge-bound up p ad ts e s.0 f
+inside-table up p ad ts e (Some s) f = omega (arith, edge-within up p (cells ad ts) s.0 f, length-cells ad ts e)
 
--- one write for each length with an edge slot, and the last
+-- how many of the lengths have an edge slot
+abbrev pub moves : (ℕ → Option ℕ) → List ℕ → ℕ
+moves edge [] = 0
+moves edge (l ∷ ls) = cond (is_some (edge l)) 1 0 + moves edge ls
+
+-- no more than there are lengths
+one-move : (o : Option ℕ) → cond (is_some o) 1 0 ≤ 1
+one-move none = omega arith
+one-move (some s) = omega arith
+
+pub moves-most : (edge : ℕ → Option ℕ) (ls : List ℕ) → moves edge ls ≤ length ls
+moves-most edge [] = omega arith
+moves-most edge (l ∷ ls) = omega (arith, one-move (edge l), moves-most edge ls)
+
+-- one write for each, and the last
 pub length-chain : (edge : ℕ → Option ℕ) (cs : List Cell) (ls : List ℕ) (at : ℕ) (c : Cell) → length (chain edge cs ls at c) ≡ moves edge ls + 1
 length-chain edge cs [] at c = refl
 length-chain edge cs (l ∷ ls) at c = go (edge l) refl (λ a. length-chain edge cs ls a c)
@@ -70,30 +76,31 @@ length-chain edge cs (l ∷ ls) at c = go (edge l) refl (λ a. length-chain edge
     go none e ih = rw e (omega (arith, ih at))
     go (some s) e ih = rw e (omega (arith, ih s))
 
--- so a chain has one write more than were counted
-pub chain_length : {m : ℕ} (r : Lengths) (cs : List Cell) → m ≡ moves (edge_of r.up cs) (lengths_of r) → (at : ℕ) (c : Cell) → m + 1 ≡ length (chain_of r cs at c)
-chain_length r cs f at c = omega (arith, length-chain (edge_of r.up cs) cs (lengths_of r) at c)
+-- so many writes were counted, and the lengths that are left give the rest
+pub record CountedWrites (edge : ℕ → Option ℕ) (all ls : List ℕ) (w : ℕ) : Type 0 where
+  pub left : w + moves edge ls ≡ moves edge all + 1
 
--- so many moves were counted, and the lengths that are left give the rest
-pub record CountedMoves (edge : ℕ → Option ℕ) (all ls : List ℕ) (w : ℕ) : Type 0 where
-  pub few : w + length ls ≤ length all
-  pub left : w + moves edge ls ≡ moves edge all
+pub counted-start : (edge : ℕ → Option ℕ) (all : List ℕ) → CountedWrites edge all all 1
+counted-start edge all = record { left = omega arith }
 
--- a length's edge slot, found or not, is one move or none
-pub counted-turn : {edge : ℕ → Option ℕ} {all ls : List ℕ} {l w b : ℕ} → CountedMoves edge all (l ∷ ls) w → (o : Optional Slot) → place_of o ≡ edge l →
-    b ≡ bool_byte (found o) → CountedMoves edge all ls (w + b)
-counted-turn h None e f = record { few = omega (arith, h.few); left = omega (arith, rw (← e) at h.left) }
-counted-turn h (Some s) e f = record { few = omega (arith, h.few); left = omega (arith, rw (← e) at h.left) }
+-- a length's edge slot, found or not, is one write or none
+pub counted-turn : {edge : ℕ → Option ℕ} {all ls : List ℕ} {l w b : ℕ} → CountedWrites edge all (l ∷ ls) w → (o : Optional Slot) → place_of o ≡ edge l →
+    b ≡ bool_byte (found o) → CountedWrites edge all ls (w + b)
+counted-turn h None e f = record { left = omega (arith, rw (← e) at h.left) }
+counted-turn h (Some s) e f = record { left = omega (arith, rw (← e) at h.left) }
 
--- as many lengths as were counted
-lengths-counted : (up : Bool) (k l : ℕ) → length (lengths_from up k l) ≡ k
-lengths-counted true zero l = refl
-lengths-counted true (suc k) l = ap suc (lengths-counted true k (l + 1))
-lengths-counted false zero l = refl
-lengths-counted false (suc k) l = ap suc (lengths-counted false k l)
+pub counted-few : {edge : ℕ → Option ℕ} {all ls : List ℕ} {w : ℕ} → CountedWrites edge all ls w → w ≤ length all + 1
+counted-few {edge} {all} h = omega (arith, h.left, moves-most edge all)
 
-pub length-lengths : (r : Lengths) → length (lengths_of r) ≡ r.count
-length-lengths r = lengths-counted r.up r.count r.from.0
+pub counted-end : {edge : ℕ → Option ℕ} {all : List ℕ} {w : ℕ} → CountedWrites edge all [] w → (cs : List Cell) (at : ℕ) (c : Cell) → w ≡ length (chain edge cs all at c)
+counted-end {edge} {all} h cs at c = omega (arith, h.left, length-chain edge cs all at c)
+
+-- as many lengths as are counted
+pub length-lengths : (up : Bool) (k l : ℕ) → length (lengths_from up k l) ≡ k
+length-lengths true zero l = refl
+length-lengths true (suc k) l = ap suc (length-lengths true k (l + 1))
+length-lengths false zero l = refl
+length-lengths false (suc k) l = ap suc (length-lengths false k l)
 
 -- the first of lengths in turn
 first-below : (up : Bool) (k l : ℕ) {n : ℕ} {ls : List ℕ} → lengths_from up k l ≡ n ∷ ls → n < l + k

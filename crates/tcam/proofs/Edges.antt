@@ -4,6 +4,8 @@
 -- an earlier one. Among the slots that were visited, the last one found is then the edge, whatever is sought.
 use Rattle.std.proofs.Common.{◌≡◌, ℕ, zero, suc, ◌+◌, ◌-◌, ◌<◌, ◌≤◌, Bool, true, false, cond, not, ◌&&◌, eqb, List, length, get_or, drop, set, replicate, sym, refl, ap, ◌∙◌, add-one, arith, length-set, get_or-set_other, get_or-set_same, eq-eqb, ne_eqb, eqb-true}
 use mathlib.Core.Option.{Option, none, some}
+use Rattle.std.specs.Prelude.{Option as Optional, None, Some}
+use Rattle.route.specs.declared.Slot.{Slot}
 use native.Mathlib.Nat.{sub-zero}
 use lib.ListN.{length-replicate}
 use lib.Seq.{drop-length}
@@ -11,8 +13,8 @@ use borrow.Author.Tests.{eqb-false}
 use Rattle.route.specs.Refusals.{fine}
 use Rattle.tcam.specs.Slots.{Cell, cells, is_free, length_in, keeps_s1, slot_fault}
 use Rattle.tcam.specs.Plans.{first_slot, last_slot, or_else, of_length}
-use Rattle.tcam.specs.Shown.{cell_at, group_of}
-use Rattle.tcam.specs.Loops.{edge, EdgesOf, visited}
+use Rattle.tcam.specs.Shown.{cell_at, group_of, place_of}
+use Rattle.tcam.specs.Loops.{edge, edge_slot, EdgesOf, visited}
 use Rattle.tcam.proofs.OrElse.{or-else-assoc, or_else_none, or-else-cond}
 use Rattle.tcam.proofs.Rows.{cells_at, get_or-cells}
 use Rattle.tcam.proofs.Cells.{used-short, slot-keeps}
@@ -87,42 +89,42 @@ keeps-at : (W : ℕ) (ad ts : List ℕ) → length ad ≡ length ts → (i : ℕ
 keeps-at W ad ts e i f l = rw (get_or-cells ad ts i e l) at (slot-keeps W 0 (cells ad ts) i f)
 
 -- k slots were visited: the row has, for each group, the last one found among them
-pub record EdgesAmong (W : ℕ) (up : Bool) (ad ts row : List ℕ) (k : ℕ) : Type 0 where
+pub record EdgesAmong (W : ℕ) (up : Bool) (ad ts : List ℕ) (edges : List (Optional Slot)) (k : ℕ) : Type 0 where
   pub within : k ≤ length ad
   pub equal : length ad ≡ length ts
   pub keeps : slot_fault W 0 (cells ad ts) ≡ fine
-  pub size : length row ≡ W + 2
-  pub of : (l : ℕ) → l ≤ W + 1 → slot_in row l ≡ latest up (λ c. eqb (group_of W c) l) (cell_at ad ts) (length ad) k
+  pub size : length edges ≡ W + 2
+  pub of : (l : ℕ) → l ≤ W + 1 → edge_slot edges l ≡ latest up (λ c. eqb (group_of W c) l) (cell_at ad ts) (length ad) k
 
-pub edges-start : {W : ℕ} {up : Bool} {ad ts row : List ℕ} → length ad ≡ length ts → slot_fault W 0 (cells ad ts) ≡ fine → row ≡ replicate (W + 2) 0 →
-    EdgesAmong W up ad ts row 0
-edges-start {W} e f z = record {
+pub edges-start : {W : ℕ} {up : Bool} {ad ts : List ℕ} → length ad ≡ length ts → slot_fault W 0 (cells ad ts) ≡ fine →
+    EdgesAmong W up ad ts (replicate (W + 2) None) 0
+edges-start {W} e f = record {
   within = omega arith;
   equal = e;
   keeps = f;
-  size = ap length z ∙ length-replicate (W + 2) 0;
-  of = λ l i. rw z (ap as_slot (none-at (W + 2) l));
+  size = length-replicate (W + 2) None;
+  of = λ l i. ap place_of (none-at (W + 2) l);
 }
   where
-    none-at : (n l : ℕ) → ◌≡◌ {A = ℕ} (get_or (replicate n 0) l 0) 0
+    none-at : (n l : ℕ) → ◌≡◌ {A = Optional Slot} (get_or (replicate n None) l None) None
     none-at zero l = refl
     none-at (suc n) zero = refl
     none-at (suc n) (suc l) = none-at n l
 
-module _ {W : ℕ} {up : Bool} {ad ts row : List ℕ} {k : ℕ} (h : EdgesAmong W up ad ts row k) where
-  module _ (l : k < length ad) {s : ℕ} (visits : s ≡ visited up (length ad) k) {c : Cell} (is : c ≡ cell_at ad ts s) {n : ℕ} (e : n ≡ group_of W c) where
-    -- the slot's group has a number in the row
-    pub group-below : n < length row
+module _ {W : ℕ} {up : Bool} {ad ts : List ℕ} {edges : List (Optional Slot)} {k : ℕ} (h : EdgesAmong W up ad ts edges k) where
+  module _ (l : k < length ad) {s : Slot} (visits : s.0 ≡ visited up (length ad) k) {c : Cell} (is : c ≡ cell_at ad ts s.0) {n : ℕ} (e : n ≡ group_of W c) where
+    -- the slot's group has a place in the row
+    pub group-below : n < length edges
     group-below = rw e (go (is_free c) (used-short W c kept))
       where
         kept : keeps_s1 W c ≡ true
-        kept = rw is (keeps-at W ad ts h.equal s h.keeps (rw visits (visited-below up (length ad) k l)))
+        kept = rw is (keeps-at W ad ts h.equal s.0 h.keeps (rw visits (visited-below up (length ad) k l)))
 
-        go : (f : Bool) → (f ≡ false → length_in c ≤ W) → cond f (W + 1) (length_in c) < length row
+        go : (f : Bool) → (f ≡ false → length_in c ≤ W) → cond f (W + 1) (length_in c) < length edges
         go true i = omega (arith, h.size)
         go false i = omega (arith, h.size, i refl)
 
-    pub edges-turn : EdgesAmong W up ad ts (set row n (s + 1)) (k + 1)
+    pub edges-turn : EdgesAmong W up ad ts (set edges n (Some s)) (k + 1)
     edges-turn = record {
       within = omega arith;
       equal = h.equal;
@@ -135,13 +137,13 @@ module _ {W : ℕ} {up : Bool} {ad ts row : List ℕ} {k : ℕ} (h : EdgesAmong 
         test m = ap (λ (x : ℕ). eqb x m) (sym (e ∙ ap (group_of W) (is ∙ ap (cell_at ad ts) visits)))
 
         go : (m : ℕ) → m ≤ W + 1 → (b : Bool) → eqb n m ≡ b →
-            slot_in (set row n (s + 1)) m ≡ latest up (λ c. eqb (group_of W c) m) (cell_at ad ts) (length ad) (suc k)
+            edge_slot (set edges n (Some s)) m ≡ latest up (λ c. eqb (group_of W c) m) (cell_at ad ts) (length ad) (suc k)
         go m i true f =
             rw (test m ∙ f)
-            (ap (λ (x : ℕ). slot_in (set row n (s + 1)) x) (sym (eqb-true n m f)) ∙ ap as_slot (get_or-set_same row n (s + 1) 0 group-below ∙ add-one s) ∙ ap some visits)
-        go m i false f = rw (test m ∙ f) (ap as_slot (get_or-set_other row n m (s + 1) 0 (λ q. eqb-false n m f (sym q))) ∙ h.of m i)
+            (ap (λ (x : ℕ). edge_slot (set edges n (Some s)) x) (sym (eqb-true n m f)) ∙ ap place_of (get_or-set_same edges n (Some s) None group-below) ∙ ap some visits)
+        go m i false f = rw (test m ∙ f) (ap place_of (get_or-set_other edges n m (Some s) None (λ q. eqb-false n m f (sym q))) ∙ h.of m i)
 
-  pub edges-end : length ad ≤ k → EdgesOf W up (cells ad ts) row
+  pub edges-end : length ad ≤ k → EdgesOf W up (cells ad ts) edges
   edges-end l = record {
     size = h.size;
     of = λ m i. at-end m (omega arith) ∙ latest-agree up (λ c. eqb (group_of W c) m) (of_length m) (cell_at ad ts) (length ad) (length ad) (omega arith) (λ j b. group-length W m (cell_at ad ts j) i)
@@ -151,5 +153,5 @@ module _ {W : ℕ} {up : Bool} {ad ts row : List ℕ} {k : ℕ} (h : EdgesAmong 
         ∙ latest-edge is_free ad ts h.equal up;
   }
     where
-      at-end : (m : ℕ) → m ≤ W + 1 → slot_in row m ≡ latest up (λ c. eqb (group_of W c) m) (cell_at ad ts) (length ad) (length ad)
+      at-end : (m : ℕ) → m ≤ W + 1 → edge_slot edges m ≡ latest up (λ c. eqb (group_of W c) m) (cell_at ad ts) (length ad) (length ad)
       at-end m i = let z : k ≡ length ad = omega (arith, h.within) in rw z at (h.of m i)

@@ -1,15 +1,19 @@
 -- A pass over the slots that stops at the first one that fails a test: none before slot i fails, an entry or free slots more keep that,
 -- and the filter has their prefixes. Then the count of the used slots.
-use Rattle.std.proofs.Common.{◌≡◌, ℕ, zero, suc, ◌+◌, ◌-◌, ◌<◌, ◌≤◌, min, Bool, true, false, not, eqb, List, [], length, drop, sym, refl, add-one, arith, eqb-true}
+use Rattle.std.proofs.Common.{◌≡◌, ℕ, zero, suc, ◌+◌, ◌-◌, ◌<◌, ◌≤◌, min, Bool, true, false, not, eqb, List, [], length, drop, sym, refl, ◌∙◌, add-one, arith, eqb-true}
+use Rattle.std.specs.Prelude.{None, Some}
 use Rattle.route.specs.Loops.{before, places_from}
 use Rattle.tcam.specs.Slots.{Cell, cells, is_free, length_in, same_prefix_in, misplaced, first_fault, used_in}
 use Rattle.tcam.specs.Runs.{InOrder}
-use Rattle.tcam.specs.Loops.{cell_at, is_used, FreeBetween, FreeEnd}
+use Rattle.tcam.specs.Shown.{cell_at}
+use Rattle.tcam.specs.Loops.{is_used, FreeBetween, FreeEnd}
 use Rattle.route.specs.Filter.{Noting}
 use Rattle.route.proofs.Tests.{all_three}
 use Rattle.route.proofs.Notes.{NotedBefore, noted-turn, noted-pass}
 use Rattle.route.proofs.Searches.{FoundFrom, from_block}
 use Rattle.tcam.proofs.Rows.{cells_at, cells-in-both, cells-past}
+use Rattle.tcam.specs.Searches.{BlockOf}
+use Rattle.tcam.proofs.Searched.{any-places}
 use Rattle.tcam.proofs.Tested.{free-at, in-order-at}
 
 -- no slot before slot i fails the test: what is left gives the whole verdict
@@ -45,13 +49,21 @@ fault_past {ad = ad} {ts = ts} {i = i} W h l e t f {r} x o =
     rw z at (fault-over (fault-turn h l e t) (r - (i + 1)) (omega (arith, x.behind, x.within))
     (λ j m n. f (cell_at ad ts j) _ (free-at x j m (omega arith)) (in-order-at W (cell_at ad ts) r o j (omega arith))))
 
--- the slots from slot `from` up to slot j are free: they end where those from slot j on end
-module _ {ad ts : List ℕ} {from j : ℕ} (h : FoundFrom is_used (cell_at ad ts) from (length ad) j false) where
-  pub free-further : {r : ℕ} → FreeEnd ad ts j r → FreeEnd ad ts from r
-  free-further {r} e =
-      let b = e.between in
-      let g = from_block h r b.behind b.within (sym b.free) in
-      record { between = record { behind = g.behind; within = b.within; free = sym g.is }; used = e.used }
+-- the free slots from slot `from` on end behind slot j, in the block that has a used slot, or they are all that is left
+module _ (ad ts : List ℕ) {from : ℕ} where
+  pub free-before : {j r : ℕ} → j ≤ length ad → BlockOf (λ (i : ℕ). is_used (cell_at ad ts i)) from (length ad) (Some j) → FreeEnd ad ts j r → FreeEnd ad ts from r
+  free-before {j} {r} l b e =
+      let h : FoundFrom is_used (cell_at ad ts) from (length ad) j false =
+      record { behind = b.0; within = l; is = sym b.1 ∙ any-places is_used (cell_at ad ts) from (j - from) } in
+      let x = e.between in
+      let g = from_block h r x.behind x.within (sym x.free) in
+      record { between = record { behind = g.behind; within = x.within; free = sym g.is }; used = e.used }
+
+  pub free-all : from ≤ length ad → BlockOf (λ (i : ℕ). is_used (cell_at ad ts i)) from (length ad) None → FreeEnd ad ts from (length ad)
+  free-all l b = record {
+    between = record { behind = l; within = omega arith; free = sym (any-places is_used (cell_at ad ts) from (length ad - from)) ∙ b };
+    used = λ m. absurd (omega arith);
+  }
 
 -- the filter has the prefix of each used slot before slot i
 pub record CellsNoted (ad ts row : List ℕ) (i : ℕ) : Type 0 where

@@ -7,6 +7,7 @@ pub mod Sizes
 -- S5 by runs of one length.
 pub mod Runs
 -- The loops, by family: the image test, repeats, the lookup, the download, the writes of a plan, edge slots, chains.
+pub mod Searched
 pub mod SeenBefore
 pub mod RunLoops
 pub mod Tested

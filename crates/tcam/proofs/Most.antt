@@ -9,25 +9,14 @@ use Rattle.route.specs.Refusals.{length_refusal, address_refusal, hop_refusal, f
 use Rattle.tcam.specs.Slots.{max_slots, Cell, cell, cells, free, is_free, tag_of, breaks, image_fault, table_fault}
 use Rattle.tcam.specs.Plans.{Write, Planned, refuses, writes, write, first_slot, last_slot, of_prefix, open_after, chain, first_of_length, last_of, set_absent, remove_by, remove_present}
 use Rattle.tcam.specs.Plans.{most_to_set, most_to_remove, with_room, is_some, set_at, remove_at, if_fine, plan_set, plan_remove, plan_answer}
-use Rattle.tcam.specs.Loops.{lengths_from, moves}
+use Rattle.tcam.specs.Loops.{lengths_from}
 use Rattle.route.proofs.Tests.{either, in_turn}
 use Rattle.route.proofs.Accepted.{prefix-good}
-use Rattle.tcam.proofs.Chains.{length-chain}
-
--- one move at most for each length
-one-move : (o : Option ℕ) → cond (is_some o) 1 0 ≤ 1
-one-move none = omega arith
-one-move (some s) = omega arith
-
-moves-most : (edge : ℕ → Option ℕ) (up : Bool) (k l : ℕ) → moves edge (lengths_from up k l) ≤ k
-moves-most edge true zero l = omega arith
-moves-most edge true (suc k) l = omega (arith, one-move (edge l), moves-most edge true k (l + 1))
-moves-most edge false zero l = omega arith
-moves-most edge false (suc k) l = omega (arith, one-move (edge (l + k)), moves-most edge false k l)
+use Rattle.tcam.proofs.Chains.{moves-most, length-chain, length-lengths}
 
 module _ (edge : ℕ → Option ℕ) (cs : List Cell) (up : Bool) (k l : ℕ) where
   chain-most : (at : ℕ) (c : Cell) → length (chain edge cs (lengths_from up k l) at c) ≤ k + 1
-  chain-most at c = omega (arith, length-chain edge cs (lengths_from up k l) at c, moves-most edge up k l)
+  chain-most at c = omega (arith, length-chain edge cs (lengths_from up k l) at c, moves-most edge (lengths_from up k l), length-lengths up k l)
 
   remove_by-most : (s e : ℕ) → length (remove_by edge cs (lengths_from up k l) s e) ≤ k + 2
   remove_by-most s e = go (eqb s e) (chain-most e free)

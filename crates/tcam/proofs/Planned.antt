@@ -1,7 +1,9 @@
 -- What a plan answers and leaves in the lent row: refused, the row as it was; else its writes, and the cells past them as found.
-use Rattle.std.proofs.Common.{◌≡◌, ℕ, ◌+◌, ◌-◌, ◌*◌, ◌/◌, ◌<◌, ◌≤◌, Bool, true, false, cond, not, ltb, leb, ◌≢◌, List, [], ◌∷◌, ◌++◌, length, get_or, drop, refl, ap, ◌∙◌, zero-add, arith, le-ltb, lt-ltb, ne_eqb, leb-false, leb-true}
+use Rattle.std.proofs.Common.{◌≡◌, ℕ, ◌+◌, ◌-◌, ◌*◌, ◌/◌, ◌<◌, ◌≤◌, Bool, true, false, cond, not, ltb, leb, List, [], ◌∷◌, ◌++◌, length, get_or, drop, refl, ap, ◌∙◌, zero-add, arith, le-ltb, lt-ltb, eqb, leb-false, leb-true}
 use mathlib.Core.Option.{Option, none, some}
 use lib.Seq.{sets, sets-eq}
+use Rattle.std.specs.Ordering.{is_le, is_lt, nat_cmp}
+use Rattle.std.proofs.lemmas.Bool.Decides.{nat_tests}
 use Rattle.route.proofs.Tests.{by_test}
 use Rattle.route.specs.Refusals.{Answer, value, refused, fine, room_refusal, full_refusal}
 use Rattle.tcam.specs.Slots.{Cell, is_free, free}
@@ -39,9 +41,16 @@ module _ (ws : List Write) {row : List ℕ} {w : ℕ} (many : w ≡ length ws) w
       record { answers = rw e (ap value many); after = rw e (g ∙ put-row ws row (omega arith)) }
 
 -- where the gap is not at its length's edge, the edge entry goes there first
-module _ (edge : ℕ → Option ℕ) (cs : List Cell) (ls : List ℕ) {s e : ℕ} where
-  pub gap-elsewhere : s ≢ e → remove_by edge cs ls s e ≡ write s (get_or cs e free) ∷ chain edge cs ls e free
-  gap-elsewhere q = rw (ne_eqb s e q)
+module _ (edge : ℕ → Option ℕ) (cs : List Cell) (ls : List ℕ) (s e : ℕ) where
+  pub gap-elsewhere : false ≡ eqb s e → remove_by edge cs ls s e ≡ write s (get_or cs e free) ∷ chain edge cs ls e free
+  gap-elsewhere q = rw (← q)
+
+-- the code's tests of two lengths
+pub le-test : (a b : ℕ) → is_le (nat_cmp a b) ≡ leb a b
+le-test a b = grind (arith, nat_tests)
+
+pub lt-test : (a b : ℕ) → is_lt (nat_cmp a b) ≡ not (leb b a)
+lt-test a b = grind (arith, nat_tests)
 
 -- a set of an absent prefix, by the row of edge slots on its side of the pool
 some-first-last : (p : Cell → Bool) (i : ℕ) (cs : List Cell) → is_some (first_slot p i cs) ≡ is_some (last_slot p i cs)
@@ -64,33 +73,27 @@ module _ (W : ℕ) (cs : List Cell) (n : ℕ) (c : Cell) (room : ℕ) where
       let f : is_some (first_slot is_free 0 cs) ≡ false = some-edge up is_free cs ∙ ap is_some e in
       rw f
 
-  pub set-chain : {up : Bool} {s : ℕ} (r : Lengths) → up ≡ leb (W / 2) n → edge up is_free cs ≡ some s → r.up ≡ up → lengths_of r ≡ lengths_to W up n →
+  pub set-chain : {s : ℕ} (r : Lengths) → r.up ≡ leb (W / 2) n → lengths_of r ≡ lengths_to W r.up n → edge r.up is_free cs ≡ some s →
       set_at W cs n c room none ≡ with_room room fine (chain_of r cs s c)
-  set-chain {up} {s} r u e g l =
-      let f : is_some (first_slot is_free 0 cs) ≡ true = some-edge up is_free cs ∙ ap is_some e in
-      let same : chain (edge_of up cs) cs (lengths_to W up n) s c ≡ chain_of r cs s c = rw (l, g) in
-      rw f (ap (with_room room fine) (go (leb (W / 2) n) u ∙ same))
+  set-chain {s} r u l e =
+      let f : is_some (first_slot is_free 0 cs) ≡ true = some-edge r.up is_free cs ∙ ap is_some e in
+      rw f (ap (with_room room fine) (go (leb (W / 2) n) u ∙ rw (← l)))
     where
-      go : (t : Bool) → up ≡ t →
+      go : (t : Bool) → r.up ≡ t →
           cond t (chain (first_of_length cs) cs (rising (n - W / 2) (W / 2)) (open_after 0 (first_slot is_free 0 cs)) c)
           (chain (last_of cs) cs (falling (W / 2 - 1 - n) (n + 1)) (open_after 0 (last_slot is_free 0 cs)) c)
-          ≡ chain (edge_of up cs) cs (cond t (lengths_from up (n - W / 2) (W / 2)) (lengths_from up (W / 2 - 1 - n) (n + 1))) s c
+          ≡ chain (edge_of r.up cs) cs (cond t (lengths_from r.up (n - W / 2) (W / 2)) (lengths_from r.up (W / 2 - 1 - n) (n + 1))) s c
       go true q = let e' = rw q at e in rw (q, e')
       go false q = let e' = rw q at e in rw (q, e')
 
 -- and a removal
 module _ (W : ℕ) (cs : List Cell) (n : ℕ) where
-  pub erase-chain : {up : Bool} {t : ℕ} (s : ℕ) (r : Lengths) → up ≡ ltb n (W / 2) → r.up ≡ up → lengths_of r ≡ lengths_to W up n → t ≡ open_after s (edge_of up cs n) →
+  pub erase-chain : {t : ℕ} (s : ℕ) (r : Lengths) → r.up ≡ not (leb (W / 2) n) → lengths_of r ≡ lengths_to W r.up n → t ≡ open_after s (edge_of r.up cs n) →
       remove_present W cs n s ≡ remove_by (edge_of r.up cs) cs (lengths_of r) s t
-  erase-chain {up} {t} s r u g l e =
-      let same : remove_by (edge_of up cs) cs (lengths_to W up n) s (open_after s (edge_of up cs n)) ≡ remove_by (edge_of r.up cs) cs (lengths_of r) s t = rw (e, l, g) in
-      go (leb (W / 2) n) (u ∙ below) ∙ same
+  erase-chain s r u l e = go (leb (W / 2) n) u ∙ rw (e, l)
     where
-      below : ltb n (W / 2) ≡ not (leb (W / 2) n)
-      below = by_test (leb (W / 2) n) (λ t. rw (t, le-ltb n (W / 2) (leb-true (W / 2) n t))) (λ t. rw (t, lt-ltb n (W / 2) (leb-false (W / 2) n t)))
-
-      go : (b : Bool) → up ≡ not b → cond b (remove_by (last_of cs) cs (falling (n - W / 2) (W / 2)) s (open_after s (last_of cs n)))
+      go : (b : Bool) → r.up ≡ not b → cond b (remove_by (last_of cs) cs (falling (n - W / 2) (W / 2)) s (open_after s (last_of cs n)))
           (remove_by (first_of_length cs) cs (rising (W / 2 - 1 - n) (n + 1)) s (open_after s (first_of_length cs n)))
-          ≡ remove_by (edge_of up cs) cs (cond b (lengths_from up (n - W / 2) (W / 2)) (lengths_from up (W / 2 - 1 - n) (n + 1))) s (open_after s (edge_of up cs n))
+          ≡ remove_by (edge_of r.up cs) cs (cond b (lengths_from r.up (n - W / 2) (W / 2)) (lengths_from r.up (W / 2 - 1 - n) (n + 1))) s (open_after s (edge_of r.up cs n))
       go true q = rw q
       go false q = rw q

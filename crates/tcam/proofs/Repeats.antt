@@ -1,31 +1,32 @@
 -- The pass for repeats: what slot i comes to, and that the slots before it repeat a prefix at most once.
-use Rattle.std.proofs.Common.{◌≡◌, ℕ, zero, suc, ◌+◌, ◌-◌, ◌<◌, ◌≤◌, true, false, cond, not, ◌||◌, eqb, List, [], length, drop, sym, refl, ap, ◌∙◌, add-one, arith, drop_of_length-le}
+use Rattle.std.proofs.Common.{◌≡◌, ℕ, zero, suc, ◌+◌, ◌-◌, ◌<◌, ◌≤◌, Bool, true, false, not, ◌||◌, eqb, List, [], length, drop, sym, refl, ap, ◌∙◌, add-one, arith, drop_of_length-le}
+use Rattle.std.specs.Prelude.{Option as Optional, None, Some, Result, Ok, Err}
+use Rattle.std.specs.Option.{is_some as has}
 use mathlib.Core.Bool.{and-false, and-true, or_comm}
 use mathlib.Core.Option.{Option, some}
-use borrow.Author.Tests.{not-true}
+use borrow.Author.Tests.{not-true, not-false}
 use Rattle.route.specs.Refusals.{fine, fault, fault_if, image_refusal}
 use Rattle.route.specs.Shown.{number, place}
 use Rattle.route.specs.Lists.{any}
-use Rattle.route.specs.Loops.{before, places_from}
+use Rattle.route.specs.Loops.{before}
 use Rattle.tcam.specs.Slots.{Cell, cells, is_free, length_in, same_prefix_in, repeats}
 use Rattle.tcam.specs.Plans.{is_some, or_else}
 use Rattle.tcam.specs.Mend.{other_tag_in, contradicts, repeat_fault, repeat_slot}
-use Rattle.tcam.specs.Loops.{cell_at, TestedBefore, PlacedAt, repeats_at, FreeBetween, EntryAt, repeat_of, since_at, fails_at, RepeatWith, TableRows}
-use Rattle.tcam.specs.Shown.{place_of}
-use Rattle.tcam.specs.declared.image.Seen.{Seen}
-use Rattle.tcam.specs.declared.mend.Repeat.{Repeat}
-use Rattle.tcam.specs.declared.mend.Repeat.TheVariants.{Found, Refused}
-use Rattle.tcam.specs.declared.mend.Repeats.{Repeats}
-use Rattle.tcam.specs.declared.plan.Place.TheVariants.{Nowhere, At}
+use Rattle.tcam.specs.Loops.{repeats_at, FreeBetween, EntryAt, unless_refused, since_at, fails_at, RepeatWith, TableRows}
+use Rattle.tcam.specs.Shown.{cell_of, place_of, cell_at}
+use Rattle.tcam.specs.Searches.{any_between}
+use Rattle.tcam.specs.declared.image.Here.{Here}
+use Rattle.route.specs.declared.Refusal.{Refusal}
 use Rattle.route.specs.declared.Refusal.TheVariants.{Image}
 use Rattle.route.specs.declared.Slot.{Slot}
-use Rattle.route.proofs.Tests.{by_test, either, and_parts, or_parts, clash}
+use Rattle.route.proofs.Tests.{by_test, is_false, and_parts, or_parts, clash}
 use Rattle.route.proofs.Members.{none-stronger}
 use Rattle.tcam.proofs.Cells.{used-short, slot-keeps}
 use Rattle.tcam.proofs.Rows.{cells_at, get_or-cells}
 use Rattle.tcam.proofs.OrElse.{or-else-assoc, or_else_none, or-else-cond, or_else_some}
 use Rattle.tcam.proofs.Runs.{run_holds_lem, repeats-in-run}
 use Rattle.tcam.proofs.RunLoops.{run-other}
+use Rattle.tcam.proofs.Searched.{any-places}
 use Rattle.tcam.proofs.SeenBefore.{repeats-free}
 use Rattle.tcam.proofs.Tested.{free-at}
 
@@ -39,44 +40,62 @@ contradicts-not c bs e = by_test (is_free c)
 repeats-used : (at : ℕ → Cell) (i : ℕ) → repeats_at at i ≡ true → is_free (at i) ≡ false
 repeats-used at i e = not-true _ (and_parts (not (is_free (at i))) (any (same_prefix_in (at i)) (before at i)) e).0
 
+-- a slot that was sought is there or not
+place-has : (o : Optional Slot) → is_some (place_of o) ≡ has o
+place-has None = refl
+place-has (Some s) = refl
+
 module _ (at : ℕ → Cell) (i : ℕ) where
   -- what slot i comes to: no repeat
   repeats-not : (o : Option ℕ) → repeats_at at i ≡ false →
       (fine ≡ fault_if (fails_at at o i) image_refusal i) × (o ≡ since_at o (repeats_at at i) i)
   repeats-not o e = rw (e, contradicts-not (at i) (before at i) e, and-false (is_some o)) (refl, sym (or_else_none o))
 
-  pub with-not : (r : Repeat) → repeats_at at i ≡ false → RepeatWith at r i r
-  with-not (Found p) e = repeats-not (place_of p) e
-  with-not (Refused f) e = refl
+  -- no repeat, or a slot is refused already
+  pub with-same : (refused later : Optional Slot) → (not (repeats_at at i) || has refused) ≡ true →
+      RepeatWith at (unless_refused refused later) i (unless_refused refused later)
+  with-same (Some s) later e = refl
+  with-same None later e = repeats-not (place_of later) (is_false (repeats_at at i) (λ t. clash e (rw t)))
 
-  module _ (r : Repeats) (n : r.refused ≡ false) (e : repeats_at at i ≡ true) where
-    -- the second slot to repeat a prefix, or another tag
-    pub with-bad : (r.found || contradicts (at i) (before at i)) ≡ true → RepeatWith at (repeat_of r) i (Refused (Image i))
-    with-bad b = rw n (rw (e, and-true (is_some (place_of (cond r.found (At r.later) Nowhere))), found_some)
-        (rw (or_comm (contradicts (at i) (before at i)) r.found, b)))
-      where
-        found_some : is_some (place_of (cond r.found (At r.later) Nowhere)) ≡ r.found
-        found_some = either (λ p. is_some (place_of p) ≡ r.found) r.found sym sym
+  -- the second slot to repeat a prefix, or another tag
+  pub with-bad : (refused later : Optional Slot) → (not (repeats_at at i) || has refused) ≡ false →
+      (has later || contradicts (at i) (before at i)) ≡ true → RepeatWith at (unless_refused refused later) i (Err (Image i))
+  with-bad (Some s) later e b = clash refl (or_parts (not (repeats_at at i)) true e).1
+  with-bad None later e b =
+      let r = not-false _ (or_parts (not (repeats_at at i)) false e).0 in
+      rw (r, and-true (is_some (place_of later)), place-has later) (rw (or_comm (contradicts (at i) (before at i)) (has later), b))
 
-    -- the later copy
-    pub with-once : (r.found || contradicts (at i) (before at i)) ≡ false → {s : Slot} → s.0 ≡ i → RepeatWith at (repeat_of r) i (Found (At s))
-    with-once b q = let t = or_parts r.found (contradicts (at i) (before at i)) b in rw (n, t.0, e, t.1, q) (refl, refl)
+  -- the later copy
+  pub with-once : (refused later : Optional Slot) → (not (repeats_at at i) || has refused) ≡ false →
+      (has later || contradicts (at i) (before at i)) ≡ false → {s : Slot} → s.0 ≡ i → RepeatWith at (unless_refused refused later) i (Ok (Some s))
+  with-once (Some s) later e b q = clash refl (or_parts (not (repeats_at at i)) true e).1
+  with-once None (Some s) e b q = clash refl (or_parts true (contradicts (at i) (before at i)) b).0
+  with-once None None e b q = rw (not-false _ (or_parts (not (repeats_at at i)) false e).0, b, q) (refl, refl)
 
 -- another tag stands before a slot exactly where it stands in the run of its length
-pub contradicts-in-run : {W : ℕ} (ad ts : List ℕ) {s : Seen} {i : ℕ} → TestedBefore W (cell_at ad ts) s i → PlacedAt W (cell_at ad ts) i →
-    repeats_at (cell_at ad ts) i ≡ true → {c : Cell} → c ≡ cell_at ad ts i →
-    any (other_tag_in c) (places_from (cell_at ad ts) s.run.0 (i - s.run.0)) ≡ contradicts (cell_at ad ts i) (before (cell_at ad ts) i)
-contradicts-in-run {W} ad ts {s} {i} h p r {c} is =
-    let x = cell_at ad ts i in
-    let bs = before (cell_at ad ts) i in
-    let u = repeats-used (cell_at ad ts) i r in
-    rw (is, u) (sym (run_holds_lem W x (other_tag_in x) (λ y e. (and_parts (same_prefix_in x y) _ e).0) bs (p, h.in_order) u ∙ rw (h.run.is (length_in x), nearest u) refl))
+pub contradicts-in-run : (h : Here) (b : Bool) → (not (repeats_at (cell_at h.table.addresses.now h.table.tags.now) h.slot.0) || b) ≡ false →
+    any_between (λ (j : ℕ). other_tag_in (cell_of h.cell) (cell_at h.table.addresses.now h.table.tags.now j)) h.seen.run.0 h.slot.0
+    ≡ contradicts (cell_at h.table.addresses.now h.table.tags.now h.slot.0) (before (cell_at h.table.addresses.now h.table.tags.now) h.slot.0)
+contradicts-in-run h b e =
+    let r = not-false _ (or_parts (not (repeats_at (cell_at h.table.addresses.now h.table.tags.now) h.slot.0)) b e).0 in
+    let at = cell_at h.table.addresses.now h.table.tags.now in
+    let x = at h.slot.0 in
+    let bs = before at h.slot.0 in
+    let u = repeats-used at h.slot.0 r in
+    any-places (other_tag_in (cell_of h.cell)) at h.seen.run.0 (h.slot.0 - h.seen.run.0)
+    ∙ rw (h.holds, u)
+    (sym (run_holds_lem 32 x (other_tag_in x) (λ y e. (and_parts (same_prefix_in x y) _ e).0) bs (h.placed, h.tested.in_order) u
+    ∙ rw (h.tested.run.is (length_in x), nearest r u) refl))
   where
     -- its run is not empty
-    nearest : is_free (cell_at ad ts i) ≡ false → eqb (length_in (cell_at ad ts i)) s.nearest.0 ≡ true
-    nearest u = by_test (eqb (length_in (cell_at ad ts i)) s.nearest.0)
+    nearest : repeats_at (cell_at h.table.addresses.now h.table.tags.now) h.slot.0 ≡ true → is_free (cell_at h.table.addresses.now h.table.tags.now h.slot.0) ≡ false
+        → eqb (length_in (cell_at h.table.addresses.now h.table.tags.now h.slot.0)) h.seen.nearest.0 ≡ true
+    nearest r u =
+        let at = cell_at h.table.addresses.now h.table.tags.now in
+        by_test (eqb (length_in (at h.slot.0)) h.seen.nearest.0)
         (λ t. t)
-        (λ t. clash r (sym (run-other ad ts h.run (cell_at ad ts i) u t ∙ sym (repeats-in-run W (cell_at ad ts i) (before (cell_at ad ts) i) (p, h.in_order)))))
+        (λ t. clash r (sym (run-other h.table.addresses.now h.table.tags.now h.tested.run (at h.slot.0) u t
+        ∙ sym (repeats-in-run 32 (at h.slot.0) (before at h.slot.0) (h.placed, h.tested.in_order)))))
 
 -- the slots before slot i repeat a prefix at most once, at the slot o: what is left gives the whole verdict, and the slot
 pub record RepeatBefore (ad ts : List ℕ) (o : Option ℕ) (i : ℕ) : Type 0 where
@@ -118,17 +137,17 @@ past {ad} {ts} {o} {i} {r} h x = let z : i + (r - i) ≡ r = omega (arith, x.beh
         rw z (free (go k (omega arith)) (omega (arith, x.within)) (free-at x (i + k) (omega arith) (omega arith)))
 
 -- what the slots before slot i come to: they repeat a prefix at most once, or the first that is refused decides
-abbrev pub RepeatKept : List ℕ → List ℕ → Repeat → ℕ → Type 0
-RepeatKept ad ts (Found p) i = RepeatBefore ad ts (place_of p) i
-RepeatKept ad ts (Refused f) i = fault (number f) (place f) ≡ repeat_fault 0 false [] (cells ad ts)
+abbrev pub RepeatKept : List ℕ → List ℕ → Result (Optional Slot) Refusal → ℕ → Type 0
+RepeatKept ad ts (Ok p) i = RepeatBefore ad ts (place_of p) i
+RepeatKept ad ts (Err f) i = fault (number f) (place f) ≡ repeat_fault 0 false [] (cells ad ts)
 
 module _ (ad ts : List ℕ) where
   -- with slot i more, and the free slots behind it
-  pub kept-past : (i n : ℕ) → i < length ad → FreeBetween ad ts (i + 1) n → (r s : Repeat) → RepeatKept ad ts r i →
+  pub kept-past : (i n : ℕ) → i < length ad → FreeBetween ad ts (i + 1) n → (r s : Result (Optional Slot) Refusal) → RepeatKept ad ts r i →
       RepeatWith (cell_at ad ts) r i s → RepeatKept ad ts s n
-  kept-past i n l x (Refused f) s h e = rw e h
-  kept-past i n l x (Found p) (Refused f) h e = stop h l e
-  kept-past i n l x (Found p) (Found q) h e = past (turn h l e) x
+  kept-past i n l x (Err f) s h e = rw e h
+  kept-past i n l x (Ok p) (Err f) h e = stop h l e
+  kept-past i n l x (Ok p) (Ok q) h e = past (turn h l e) x
 
 -- the later copy is in the table
 pub repeat-entry : (ad ts : List ℕ) → length ad ≡ length ts → EntryAt ad ts (repeat_slot 0 [] (cells ad ts))

@@ -1,14 +1,18 @@
 -- Where the run just before slot i begins, and what it tells of slot i.
-use Rattle.std.proofs.Common.{◌≡◌, ℕ, zero, suc, ◌+◌, ◌-◌, ◌≤◌, Bool, true, false, cond, ◌||◌, eqb, List, [], sym, refl, ap, ◌∙◌, add-one, arith, eq-eqb, ne_eqb, eqb-true}
+use Rattle.std.proofs.Common.{◌≡◌, ℕ, zero, suc, ◌+◌, ◌-◌, ◌≤◌, true, false, cond, eqb, List, [], slice_index, sym, refl, ap, ◌∙◌, add-one, arith, eq-eqb, ne_eqb, eqb-true}
 use borrow.Author.Tests.{eqb-false, not-false}
 use Rattle.route.specs.Lists.{any}
 use Rattle.route.specs.Loops.{before, places_from}
 use Rattle.tcam.specs.Slots.{Cell, is_free, length_in}
 use Rattle.tcam.specs.Runs.{run_of, repeats_in_run}
-use Rattle.tcam.specs.Loops.{cell_at, address_at, is_address, is_used, SeenWith, SeenPast, RunBefore, FreeBetween}
+use Rattle.tcam.specs.Shown.{cell_of, cell_at}
+use Rattle.tcam.specs.Searches.{any_between}
+use Rattle.tcam.specs.Loops.{is_used, SeenWith, SeenPast, RunBefore, FreeBetween, repeats_at}
 use Rattle.tcam.specs.declared.image.Seen.{Seen}
+use Rattle.tcam.specs.declared.image.Here.{Here}
 use Rattle.route.proofs.Tests.{by_test, either, or_parts}
-use Rattle.tcam.proofs.Runs.{run-addresses}
+use Rattle.tcam.proofs.Runs.{run-addresses, repeats-in-run}
+use Rattle.tcam.proofs.Searched.{any-places}
 
 -- no entry stands just before: the run begins at the slot itself
 at-start : {at : ℕ → Cell} {n i : ℕ} → ((m : ℕ) → run_of m (before at i) ≡ []) → RunBefore at i n i
@@ -60,17 +64,29 @@ pub run-with : {W : ℕ} {at : ℕ → Cell} {i : ℕ} {s next : Seen} → RunBe
     is_free c ≡ false → SeenWith W c i s next → RunBefore at next.run.0 next.nearest.0 (i + 1)
 run-with b is u w = rw (w.run, w.nearest, is) (run-used b (rw is at u))
 
--- the addresses of some slots
-of-addresses : (ad ts : List ℕ) (a m k : ℕ) →
-    any (λ b. eqb b.address a) (places_from (cell_at ad ts) m k) ≡ any (is_address a) (places_from (address_at ad) m k)
-of-addresses ad ts a m zero = refl
-of-addresses ad ts a m (suc k) = ap (λ (x : Bool). is_address a (address_at ad (m + k)) || x) (of-addresses ad ts a m k)
-
 -- what an entry repeats in its run: nothing where its length is not the nearest, else what has its address
 module _ (ad ts : List ℕ) {run n i : ℕ} (b : RunBefore (cell_at ad ts) run n i) (c : Cell) (u : is_free c ≡ false) where
   pub run-other : eqb (length_in c) n ≡ false → false ≡ repeats_in_run c (before (cell_at ad ts) i)
   run-other e = rw (u, b.is (length_in c), e)
 
   pub run-same : eqb (length_in c) n ≡ true → {a : ℕ} → a ≡ c.address →
-      any (is_address a) (places_from (address_at ad) run (i - run)) ≡ repeats_in_run c (before (cell_at ad ts) i)
-  run-same e f = rw (f, u, run-addresses c (before (cell_at ad ts) i), b.is (length_in c), e) (sym (of-addresses ad ts c.address run (i - run)))
+      any_between (λ (j : ℕ). eqb (slice_index ad j) a) run i ≡ repeats_in_run c (before (cell_at ad ts) i)
+  run-same e f =
+      rw (f, u, run-addresses c (before (cell_at ad ts) i), b.is (length_in c), e) (any-places (λ (d : Cell). eqb d.address c.address) (cell_at ad ts) run (i - run))
+
+-- a slot of the pass repeats what it repeats in its run
+module _ (h : Here) (u : is_free (cell_of h.cell) ≡ false) where
+  in-run : repeats_in_run (cell_of h.cell) (before (cell_at h.table.addresses.now h.table.tags.now) h.slot.0)
+      ≡ repeats_at (cell_at h.table.addresses.now h.table.tags.now) h.slot.0
+  in-run =
+      let at = cell_at h.table.addresses.now h.table.tags.now in
+      ap (λ (x : Cell). repeats_in_run x (before at h.slot.0)) h.holds
+      ∙ sym (repeats-in-run 32 (at h.slot.0) (before at h.slot.0) (h.placed, h.tested.in_order))
+
+  pub here-other : eqb (length_in (cell_of h.cell)) h.seen.nearest.0 ≡ false → false ≡ repeats_at (cell_at h.table.addresses.now h.table.tags.now) h.slot.0
+  here-other e = run-other h.table.addresses.now h.table.tags.now h.tested.run (cell_of h.cell) u e ∙ in-run
+
+  pub here-same : eqb (length_in (cell_of h.cell)) h.seen.nearest.0 ≡ true →
+      any_between (λ (j : ℕ). eqb (slice_index h.table.addresses.now j) h.cell.address) h.seen.run.0 h.slot.0
+      ≡ repeats_at (cell_at h.table.addresses.now h.table.tags.now) h.slot.0
+  here-same e = run-same h.table.addresses.now h.table.tags.now h.tested.run (cell_of h.cell) u e refl ∙ in-run

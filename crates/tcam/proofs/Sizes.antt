@@ -3,7 +3,6 @@ use Rattle.std.proofs.Common.{◌≡◌, ℕ, ◌≤◌, eqb, leb, List, [], len
 use borrow.Author.Tests.{not-false}
 use Rattle.route.specs.Refusals.{fine}
 use Rattle.tcam.specs.Slots.{max_slots, cells, slot_fault, slots_fault, size_fault, table_fault}
-use Rattle.tcam.specs.Loops.{TableRows}
 use Rattle.route.proofs.Tests.{all_three, passed, in_turn}
 use Rattle.tcam.proofs.SlotsAgree.{image_keeps_s1}
 
@@ -25,6 +24,3 @@ pub tested : (W : ℕ) (ad ts : List ℕ) → fine ≡ table_fault W ad ts → T
 tested W ad ts e =
     let t = in_turn (size_fault ad ts) _ (sym e) in
     record { size = sized (length ad) (length ts) (sym t.0); keeps = image_keeps_s1 W 0 0 [] (cells ad ts) t.1 }
-
-pub table-rows : {W : ℕ} {ad ts : List ℕ} → Tested W ad ts → TableRows W ad ts
-table-rows t = record { equal = t.size.equal; few = t.size.few; keeps = t.keeps }

@@ -5,7 +5,8 @@ use Rattle.route.specs.Lists.{any}
 use Rattle.route.specs.Loops.{before, places_from}
 use Rattle.tcam.specs.Slots.{Cell, is_free}
 use Rattle.tcam.specs.Runs.{InOrder}
-use Rattle.tcam.specs.Loops.{cell_at, is_used, SeenBefore, SeenWith, SeenPast, TestedBefore, PlacedAt, FreeBetween}
+use Rattle.tcam.specs.Shown.{cell_at}
+use Rattle.tcam.specs.Loops.{is_used, SeenBefore, SeenWith, SeenPast, TestedBefore, PlacedAt, FreeBetween}
 use Rattle.tcam.specs.declared.image.Seen.{Seen}
 use Rattle.route.proofs.Tests.{by_test, or_parts}
 use Rattle.tcam.proofs.SeenBefore.{misplaced-free, misplaced-is, seen-with, seen-past, past-again}

@@ -12,5 +12,6 @@ pub mod Mend
 pub mod Download
 -- What the code's types show, and what only loops need.
 pub mod Shown
+pub mod Searches
 pub mod Loops
 pub mod InTurn

@@ -1,5 +1,5 @@
 -- What the contracts of leaves and of loops speak of. No promise of a public call cites it.
-use Rattle.std.specs.Prelude.{◌≡◌, ℕ, zero, suc, ◌+◌, ◌-◌, ◌*◌, ◌/◌, ◌<◌, ◌≤◌, Bool, true, false, cond, not, ◌&&◌, ◌||◌, List, [], ◌∷◌, length, get_or, ◌==◌, nat_le, nat_lt, slice_index, Option as Optional, None, Some, Result, Ok, Err}
+use Rattle.std.specs.Prelude.{◌≡◌, ℕ, ◌+◌, ◌-◌, ◌*◌, ◌/◌, ◌<◌, ◌≤◌, Bool, true, false, cond, not, ◌&&◌, ◌||◌, List, [], ◌∷◌, length, get_or, ◌==◌, nat_le, nat_lt, slice_index, Option as Optional, None, Some, Result, Ok, Err}
 use Rattle.std.proofs.Math.Option.{Option, none, some}
 use Rattle.route.specs.Refusals.{Verdict, fine, fault, fault_if, ◌then◌, image_refusal}
 use Rattle.route.specs.Shown.{number, place}
@@ -17,14 +17,6 @@ use Rattle.tcam.specs.Download.{From, is_to_come, next_in, Next, entry_or_end, n
 use Rattle.tcam.specs.Shown.{cell_at, place_of}
 use Rattle.tcam.specs.declared.image.Seen.{Seen}
 use Rattle.tcam.specs.declared.mend.Repeats.{Repeats}
-
--- the address of slot i
-abbrev pub address_at : List ℕ → ℕ → ℕ
-address_at ad i = slice_index ad i
-
--- whether b is the address a
-abbrev pub is_address : ℕ → ℕ → Bool
-is_address a b = b == a
 
 -- write i of a plan's row
 abbrev pub write_at : List ℕ → ℕ → Write
@@ -114,11 +106,6 @@ lengths_from false k l = falling k l
 -- the lengths between length n and the pool
 abbrev pub lengths_to : ℕ → Bool → ℕ → List ℕ
 lengths_to W up n = cond (nat_le (W / 2) n) (lengths_from up (n - W / 2) (W / 2)) (lengths_from up (W / 2 - 1 - n) (n + 1))
-
--- how many of the lengths have an edge slot
-abbrev pub moves : (ℕ → Option ℕ) → List ℕ → ℕ
-moves edge [] = 0
-moves edge (l ∷ ls) = cond (is_some (edge l)) 1 0 + moves edge ls
 
 -- the edge slot of a group in a row of them
 abbrev pub edge_slot : List (Optional Slot) → ℕ → Option ℕ

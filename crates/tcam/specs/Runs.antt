@@ -4,6 +4,8 @@
 -- out as well: an entry before a free slot is above the pool, and one behind it is below. So the entries of one length are one unbroken
 -- run, and where S1 to S4 hold up to a slot, an earlier copy of its prefix can stand only in the run that ends just before it.
 use Rattle.std.specs.Prelude.{◌≡◌, ℕ, Bool, false, cond, ◌||◌, List, [], ◌∷◌}
+use Rattle.std.specs.Coded.{×_prop, Unit-prop}
+use Rattle.std.proofs.Props.{props}
 use Rattle.route.specs.Refusals.{Verdict}
 use Rattle.tcam.specs.Slots.{Cell, length_in, misplaced, repeats, first_fault}
 use Rattle.tcam.specs.Plans.{of_length}
@@ -30,3 +32,8 @@ fault_by_runs W i before cs = first_fault (breaks_by_run W) i before cs
 abbrev pub InOrder : ℕ → List Cell → Type 0
 InOrder W [] = Unit {0}
 InOrder W (c ∷ before) = (misplaced W c before ≡ false) × InOrder W before
+
+-- this has one proof at most
+pub InOrder-prop : (W : ℕ) (before : List Cell) → IsProp (InOrder W before)
+InOrder-prop W [] = Unit-prop
+InOrder-prop W (c ∷ before) = ×_prop (Prim.hlevel props) (InOrder-prop W before)

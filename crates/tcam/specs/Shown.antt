@@ -1,12 +1,11 @@
 -- The specification's values for the code's types: a cell, a write, a slot that was sought, what a download asks from and answers.
 use Rattle.std.specs.Prelude.{ℕ, ◌+◌, cond, List, slice_index, Option as Optional, None, Some, Result, Ok, Err}
 use Rattle.std.proofs.Math.Option.{Option, none, some}
-use Rattle.route.specs.Rule.{Route, route}
 use Rattle.route.specs.Shown.{number, place}
 use Rattle.route.specs.declared.Refusal.{Refusal}
-use Rattle.route.specs.declared.Length.{Length}
+use Rattle.route.specs.declared.Prefix.{Prefix}
 use Rattle.route.specs.declared.Slot.{Slot}
-use Rattle.tcam.specs.Slots.{Cell, cell, is_free, length_in, hop_in}
+use Rattle.tcam.specs.Slots.{Cell, cell, is_free, length_in}
 use Rattle.tcam.specs.Plans.{Write, write}
 use Rattle.tcam.specs.Download.{From, start, past, Next, entry, end, refusal}
 use Rattle.tcam.specs.declared.slots.Cell.{Cell as SlotCell}
@@ -19,10 +18,6 @@ cell_of c = cell c.address c.tag
 abbrev pub cell_at : List ℕ → List ℕ → ℕ → Cell
 cell_at ad ts i = cell (slice_index ad i) (slice_index ts i)
 
--- the prefix of a cell, with its hop
-abbrev pub prefix_in : Cell → Route
-prefix_in c = route c.address (length_in c) (hop_in c)
-
 -- the group of a cell: the free slots are behind all lengths
 abbrev pub group_of : ℕ → Cell → ℕ
 group_of W c = cond (is_free c) (W + 1) (length_in c)
@@ -34,9 +29,9 @@ abbrev pub place_of : Optional Slot → Option ℕ
 place_of None = none
 place_of (Some s) = some s.0
 
-abbrev pub from_of : Optional (ℕ × Length) → From
+abbrev pub from_of : Optional Prefix → From
 from_of None = start
-from_of (Some p) = past p.0 p.1.0
+from_of (Some p) = past p.address p.length.0
 
 abbrev pub next_of : Result (Optional SlotCell) Refusal → Next
 next_of (Ok None) = end

@@ -20,26 +20,26 @@ use crate::slots::Cell;
 use crate::table::Table;
 use route::order::key_of;
 use route::rule::prefix_check;
-use route::{Length, Refusal, Slot};
+use route::{Prefix, Refusal, Slot};
 
 // Refusals 1 and 2 of the prefix asked from; the start has none.
-fn past_check(past: Option<(u32, Length)>) -> Result<(), Refusal>
+fn past_check(past: Option<Prefix>) -> Result<(), Refusal>
     ensures { verdict_of result ≡ from_fault 32 (from_of past) }
 {
     match past {
         None => Ok(()),
-        Some((address, n)) => prefix_check(0, address, n),
+        Some(p) => prefix_check(0, p),
     }
 }
 
 // The least key of a prefix that is still to come.
-fn least_key(past: Option<(u32, Length)>) -> u64
+fn least_key(past: Option<Prefix>) -> u64
     requires { from_fault 32 (from_of past) ≡ fine }
     ensures { IsLeast (from_of past) result }
 {
     match past {
         None => 0,
-        Some((address, n)) => key_of(address, n) + 1,
+        Some(p) => key_of(p) + 1,
     }
 }
 
@@ -70,7 +70,7 @@ fn next_in(table: &Table, least: u64) -> Result<Option<Cell>, Refusal>
         if c.is_free() {
             continue;
         }
-        let ahead = ahead_of(least, key_of(c.address, c.length()));
+        let ahead = ahead_of(least, key_of(c.prefix()));
         if ahead < nearest {
             nearest = ahead;
             next = Some(c);
@@ -84,7 +84,7 @@ fn next_in(table: &Table, least: u64) -> Result<Option<Cell>, Refusal>
 pub fn next_entry(
     addresses: &[u32],
     tags: &[u32],
-    past: Option<(u32, Length)>,
+    past: Option<Prefix>,
 ) -> Result<Option<Cell>, Refusal>
     ensures { next_of result ≡ download 32 addresses.now tags.now (from_of past) }
 {

@@ -7,21 +7,21 @@
 // it says that a prefix was not noted, nothing is compared. Behind a free slot the free slots that
 // follow are passed over block by block.
 ghost use Rattle.std.specs.Prelude.{◌≡◌, ◌+◌, ◌-◌, ◌<◌, ◌≤◌, false, [], length, if◌then◌else◌, nat_eq};
+ghost use Rattle.std.proofs.Props.{props};
 ghost use Rattle.route.specs.Lists.{any};
 ghost use Rattle.route.specs.Loops.{before, places_from};
 ghost use Rattle.route.specs.Shown.{verdict_of, counted};
 ghost use Rattle.tcam.specs.Slots.{max_slots, cells, breaks, image_fault, table_fault, used_in, slot_check};
+ghost use Rattle.tcam.specs.Runs.{InOrder-prop};
 ghost use Rattle.tcam.specs.Shown.{cell_of, cell_at};
-ghost use Rattle.tcam.specs.Loops.{address_at, is_address, is_used, misplaced_by, SeenNone, SeenWith, SeenPast, TestedBefore, PlacedAt, repeats_at, FreeBetween, FreeEnd};
+ghost use Rattle.tcam.specs.Loops.{misplaced_by, SeenNone, SeenWith, SeenPast, TestedBefore, PlacedAt, repeats_at, FreeBetween, FreeEnd};
 
 use crate::MAX_SLOTS;
+use crate::search::first_block;
 use crate::slots::Cell;
 use crate::table::Table;
 use route::filter::Filter;
 use route::{Length, Refusal, Slot};
-
-// How many slots are compared before it is asked whether one was found.
-const BLOCK: usize = 64;
 
 // What stands before a slot, as far as S2 to S5 ask: the nearest entry's length, whether a slot is
 // free, whether an entry is below the pool, and where the run of the nearest length that ends just
@@ -90,76 +90,6 @@ impl Seen {
     }
 }
 
-// Whether a slot from slot `from` up to slot `to` holds the address. The loop has no exit, so that
-// several slots are compared at once.
-fn stands_among(addresses: &[u32], from: usize, to: usize, address: u32) -> bool
-    requires { (from ≤ to) × (to ≤ length addresses.now) }
-    ensures { result ≡ any (is_address address) (places_from (address_at addresses.now) from (to - from)) }
-{
-    let mut found = false;
-    for j in from..to {
-        found = (addresses[j] == address) | found;
-    }
-    found
-}
-
-// Whether a slot from slot `from` up to slot `to` holds the address, asked block by block up to the
-// first block that has it.
-fn stands_between(addresses: &[u32], from: usize, to: usize, address: u32) -> bool
-    requires { (from ≤ to) × (to ≤ length addresses.now) }
-    ensures { result ≡ any (is_address address) (places_from (address_at addresses.now) from (to - from)) }
-{
-    for j in (from..to).step_by(BLOCK) {
-        if stands_among(addresses, j, to.min(j + BLOCK), address) {
-            return true;
-        }
-    }
-    false
-}
-
-// Whether slot i, which holds c and keeps S1 to S4, repeats an earlier prefix. Where its prefix was not
-// noted, no slot before it holds that; where it has another length than the nearest entry, its run is
-// empty.
-pub(crate) fn repeats_earlier(table: &Table, seen: Seen, noted: bool, c: Cell, i: Slot) -> bool
-    requires i_in_bounds { (i.0 < length table.now.addresses.now) × (cell_of c ≡ cell_at table.now.addresses.now table.now.tags.now i.0) }
-    requires tested_before { TestedBefore 32 (cell_at table.now.addresses.now table.now.tags.now) seen i.0 × PlacedAt 32 (cell_at table.now.addresses.now table.now.tags.now) i.0 }
-    requires i_value { noted ≡ false → repeats_at (cell_at table.now.addresses.now table.now.tags.now) i.0 ≡ false }
-    ensures { result ≡ repeats_at (cell_at table.now.addresses.now table.now.tags.now) i.0 }
-{
-    if c.is_free() | !noted {
-        return false;
-    }
-    if c.length() != seen.nearest {
-        return false;
-    }
-    stands_between(table.addresses, seen.run.0, i.0, c.address)
-}
-
-// Whether slot i, which holds c, breaks one of S1 to S5.
-fn breaks_rule(table: &Table, seen: Seen, noted: bool, c: Cell, i: Slot) -> bool
-    requires i_in_bounds { (i.0 < length table.now.addresses.now) × (cell_of c ≡ cell_at table.now.addresses.now table.now.tags.now i.0) }
-    requires tested_before { TestedBefore 32 (cell_at table.now.addresses.now table.now.tags.now) seen i.0 }
-    requires i_value { noted ≡ false → repeats_at (cell_at table.now.addresses.now table.now.tags.now) i.0 ≡ false }
-    ensures { result ≡ breaks 32 (cell_at table.now.addresses.now table.now.tags.now i.0) (before (cell_at table.now.addresses.now table.now.tags.now) i.0) }
-{
-    if seen.refuses(c) {
-        return true;
-    }
-    repeats_earlier(table, seen, noted, c, i)
-}
-
-// Whether a slot from slot `from` up to slot `to` is used, as `stands_among` does it.
-fn used_among(table: &Table, from: usize, to: usize) -> bool
-    requires { (from ≤ to) × (to ≤ length table.now.addresses.now) }
-    ensures { result ≡ any is_used (places_from (cell_at table.now.addresses.now table.now.tags.now) from (to - from)) }
-{
-    let mut found = false;
-    for j in from..to {
-        found = !table.cell(Slot(j)).is_free() | found;
-    }
-    found
-}
-
 // The first used slot from slot `from` on, or the number of slots, slot by slot.
 fn first_used(table: &Table, from: usize) -> Slot
     requires { from ≤ length table.now.addresses.now }
@@ -179,12 +109,10 @@ fn free_end(table: &Table, from: usize) -> Slot
     ensures { FreeEnd table.now.addresses.now table.now.tags.now from result.0 }
 {
     let end = table.len();
-    for j in (from..end).step_by(BLOCK) {
-        if used_among(table, j, end.min(j + BLOCK)) {
-            return first_used(table, j);
-        }
+    match first_block(from, end, &|j| !table.cell(Slot(j)).is_free()) {
+        Some(j) => first_used(table, j),
+        None => Slot(end),
     }
-    Slot(end)
 }
 
 // What was seen of the slots before a slot, and that slot.
@@ -194,22 +122,56 @@ pub struct Passed {
     pub next: Slot,
 }
 
-// Past slot i, which holds c and keeps S1 to S4: an entry, or a free slot with those that follow it.
-pub(crate) fn pass(table: &Table, seen: Seen, c: Cell, i: Slot) -> Passed
-    requires i_in_bounds { (i.0 < length table.now.addresses.now) × (cell_of c ≡ cell_at table.now.addresses.now table.now.tags.now i.0) }
-    requires tested_before { TestedBefore 32 (cell_at table.now.addresses.now table.now.tags.now) seen i.0 × PlacedAt 32 (cell_at table.now.addresses.now table.now.tags.now) i.0 }
-    ensures { TestedBefore 32 (cell_at table.now.addresses.now table.now.tags.now) result.seen result.next.0 × FreeBetween table.now.addresses.now table.now.tags.now (i.0 + 1) result.next.0 }
-{
-    if c.is_free() {
-        let next = free_end(table, i.0 + 1);
-        return Passed {
-            seen: seen.past(next),
-            next,
-        };
+// A slot of a table that keeps S1 to S4, as the slots before it do: the cell that it holds, what was seen
+// of them, and whether the cell's prefix was noted. Where it was not, no slot before holds that.
+#[derive(Clone, Copy)]
+pub struct Here<'a> {
+    pub table: Table<'a>,
+    pub slot: Slot,
+    pub cell: Cell,
+    pub seen: Seen,
+    pub noted: bool,
+    ghost within: { slot.0 < length table.addresses.now },
+    ghost holds: { cell_of cell ≡ cell_at table.addresses.now table.tags.now slot.0 },
+    ghost tested: { TestedBefore 32 (cell_at table.addresses.now table.tags.now) seen slot.0 } by { Prim.hlevel (props, InOrder-prop) },
+    ghost placed: { PlacedAt 32 (cell_at table.addresses.now table.tags.now) slot.0 },
+    ghost not_noted: { noted ≡ false → repeats_at (cell_at table.addresses.now table.tags.now) slot.0 ≡ false },
+}
+
+impl<'a> Here<'a> {
+    // Whether the slot repeats an earlier prefix. Where it has another length than the nearest entry, its run
+    // is empty.
+    pub(crate) fn repeats_earlier(&self) -> bool
+        ensures { result ≡ repeats_at (cell_at self.now.table.addresses.now self.now.table.tags.now) self.now.slot.0 }
+    {
+        let c = self.cell;
+        if c.is_free() | !self.noted {
+            return false;
+        }
+        if c.length() != self.seen.nearest {
+            return false;
+        }
+        let addresses = self.table.addresses;
+        first_block(self.seen.run.0, self.slot.0, &|j| addresses[j] == c.address).is_some()
     }
-    Passed {
-        seen: seen.with(c, i),
-        next: Slot(i.0 + 1),
+
+    // Past the slot: an entry, or a free slot with those that follow it.
+    pub(crate) fn past(&self) -> Passed
+        ensures tested { TestedBefore 32 (cell_at self.now.table.addresses.now self.now.table.tags.now) result.seen result.next.0 }
+        ensures free { FreeBetween self.now.table.addresses.now self.now.table.tags.now (self.now.slot.0 + 1) result.next.0 }
+    {
+        let i = self.slot.0;
+        if self.cell.is_free() {
+            let next = free_end(&self.table, i + 1);
+            return Passed {
+                seen: self.seen.past(next),
+                next,
+            };
+        }
+        Passed {
+            seen: self.seen.with(self.cell, self.slot),
+            next: Slot(i + 1),
+        }
     }
 }
 
@@ -222,12 +184,23 @@ fn check_with<const WORDS: usize>(table: &Table) -> Result<(), Refusal>
     let mut seen = Seen::none();
     let mut i = 0;
     while i < table.len() {
-        let c = table.cell(Slot(i));
-        let noted = filter.note(c.address, c.length());
-        if breaks_rule(table, seen, noted, c, Slot(i)) {
+        let slot = Slot(i);
+        let cell = table.cell(slot);
+        let noted = filter.note(cell.prefix());
+        if seen.refuses(cell) {
             return Err(Refusal::Image(i));
         }
-        let passed = pass(table, seen, c, Slot(i));
+        let here = Here {
+            table: *table,
+            slot,
+            cell,
+            seen,
+            noted,
+        };
+        if here.repeats_earlier() {
+            return Err(Refusal::Image(i));
+        }
+        let passed = here.past();
         seen = passed.seen;
         i = passed.next.0;
     }
@@ -235,7 +208,7 @@ fn check_with<const WORDS: usize>(table: &Table) -> Result<(), Refusal>
 }
 
 // The same with a filter whose size goes with the table's.
-fn slots_check(table: &Table) -> Result<(), Refusal>
+pub(crate) fn slots_check(table: &Table) -> Result<(), Refusal>
     ensures { verdict_of result ≡ image_fault 32 0 [] (cells table.now.addresses.now table.now.tags.now) }
 {
     match table.len() {

@@ -12,6 +12,7 @@ pub mod image;
 pub mod lookup;
 pub mod mend;
 pub mod plan;
+mod search;
 pub mod slots;
 pub mod table;
 

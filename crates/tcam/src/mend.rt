@@ -15,9 +15,9 @@ ghost use Rattle.tcam.specs.Mend.{other_tag_in, plan_mend};
 ghost use Rattle.tcam.specs.Shown.{cell_of, cell_at};
 ghost use Rattle.tcam.specs.Loops.{TestedBefore, PlacedAt, repeats_at, repeat_of, RepeatWith, MendFound};
 
-use crate::image::{Seen, pass, repeats_earlier};
+use crate::image::{Here, Seen};
 use crate::plan::erase;
-use crate::slots::Cell;
+use crate::search::any_among;
 use crate::table::Table;
 use route::filter::Filter;
 use route::{Refusal, Slot};
@@ -41,6 +41,32 @@ impl Repeats {
         }
     }
 
+    // With a slot more.
+    fn with(self, here: &Here) -> Repeats
+        ensures { RepeatWith (cell_at here.now.table.addresses.now here.now.table.tags.now) (repeat_of self) here.now.slot.0 (repeat_of result) }
+    {
+        if !here.repeats_earlier() | self.refused.is_some() {
+            return self;
+        }
+        let table = here.table;
+        let c = here.cell;
+        let other = any_among(
+            here.seen.run.0,
+            here.slot.0,
+            &|j| { table.cell(Slot(j)).has_other_tag(c) },
+        );
+        if self.later.is_some() | other {
+            return Repeats {
+                refused: Some(here.slot),
+                ..self
+            };
+        }
+        Repeats {
+            later: Some(here.slot),
+            refused: None,
+        }
+    }
+
     // Of all slots: the slot of the later copy, if there is one, or refusal 7.
     fn result(self) -> Result<Option<Slot>, Refusal>
         ensures { result ≡ repeat_of self }
@@ -49,50 +75,6 @@ impl Repeats {
             Some(first) => Err(Refusal::Image(first.0)),
             None => Ok(self.later),
         }
-    }
-}
-
-// Whether a slot from slot `from` up to slot `to` has the prefix of c with another tag.
-fn other_tag_between(table: &Table, from: usize, to: usize, c: Cell) -> bool
-    requires { (from ≤ to) × (to ≤ length table.now.addresses.now) }
-    ensures { result ≡ any (other_tag_in (cell_of c)) (places_from (cell_at table.now.addresses.now table.now.tags.now) from (to - from)) }
-{
-    let mut found = false;
-    for j in from..to {
-        found = table.cell(Slot(j)).has_other_tag(c) | found;
-    }
-    found
-}
-
-// With slot i more, which holds c and keeps S1 to S4.
-fn repeats_with(
-    table: &Table,
-    seen: Seen,
-    noted: bool,
-    repeats: Repeats,
-    c: Cell,
-    i: Slot,
-) -> Repeats
-    requires i_in_bounds { (i.0 < length table.now.addresses.now) × (cell_of c ≡ cell_at table.now.addresses.now table.now.tags.now i.0) }
-    requires tested_before { TestedBefore 32 (cell_at table.now.addresses.now table.now.tags.now) seen i.0 × PlacedAt 32 (cell_at table.now.addresses.now table.now.tags.now) i.0 }
-    requires i_value { noted ≡ false → repeats_at (cell_at table.now.addresses.now table.now.tags.now) i.0 ≡ false }
-    ensures { RepeatWith (cell_at table.now.addresses.now table.now.tags.now) (repeat_of repeats) i.0 (repeat_of result) }
-{
-    if !repeats_earlier(table, seen, noted, c, i) {
-        return repeats;
-    }
-    if repeats.refused.is_some() {
-        return repeats;
-    }
-    if repeats.later.is_some() | other_tag_between(table, seen.run.0, i.0, c) {
-        return Repeats {
-            later: repeats.later,
-            refused: Some(i),
-        };
-    }
-    Repeats {
-        later: Some(i),
-        refused: None,
     }
 }
 
@@ -108,13 +90,21 @@ fn mend_check<const WORDS: usize>(table: &Table) -> Result<Option<Slot>, Refusal
     let mut repeats = Repeats::none();
     let mut i = 0;
     while i < table.len() {
-        let c = table.cell(Slot(i));
-        if seen.refuses(c) {
+        let slot = Slot(i);
+        let cell = table.cell(slot);
+        let noted = filter.note(cell.prefix());
+        if seen.refuses(cell) {
             return Err(Refusal::Image(i));
         }
-        let noted = filter.note(c.address, c.length());
-        repeats = repeats_with(table, seen, noted, repeats, c, Slot(i));
-        let passed = pass(table, seen, c, Slot(i));
+        let here = Here {
+            table: *table,
+            slot,
+            cell,
+            seen,
+            noted,
+        };
+        repeats = repeats.with(&here);
+        let passed = here.past();
         seen = passed.seen;
         i = passed.next.0;
     }

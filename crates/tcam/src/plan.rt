@@ -4,7 +4,7 @@
 // slot. Sets and removals, above the pool and below it, are then one chain of copies: for each length
 // between the prefix's and the pool, in turn, its edge entry goes to the open slot, and its own slot is
 // open next. The writes are counted first, so that a row without room for them is left as it was.
-ghost use Rattle.std.specs.Prelude.{◌≡◌, ◌+◌, ◌*◌, ◌<◌, ◌≤◌, [], ◌∷◌, length, if◌then◌else◌, nat_eq, slice_index, IfSome};
+ghost use Rattle.std.specs.Prelude.{◌≡◌, ℕ, ◌+◌, ◌*◌, ◌<◌, ◌≤◌, [], ◌∷◌, length, if◌then◌else◌, nat_eq, slice_index, IfSome};
 ghost use Rattle.std.proofs.Math.Option.{none};
 ghost use Rattle.std.proofs.Math.ListN;
 ghost use Rattle.std.proofs.lemmas.List.Edits.{sets};
@@ -13,13 +13,13 @@ ghost use Rattle.route.specs.Shown.{counted};
 ghost use Rattle.tcam.specs.Slots.{max_slots, cells, is_free, slot_fault};
 ghost use Rattle.tcam.specs.Plans.{first_slot, of_prefix, remove_by, remove_present, set_at, with_room, write, numbers, plan_set, plan_remove, IsPlanned};
 ghost use Rattle.tcam.specs.Shown.{cell_of, place_of};
-ghost use Rattle.tcam.specs.Loops.{EdgesOf, visited, lengths_to, moves, edge, edge_of, TableRows};
+ghost use Rattle.tcam.specs.Loops.{EdgesOf, visited, lengths_to, edge, edge_of};
 
-use crate::image::table_check;
+use crate::image::slots_check;
 use crate::slots::{Cell, Group};
 use crate::table::Table;
 use route::rule::{entry_check, prefix_check};
-use route::{Hop, Length, Route, Refusal, Slot};
+use route::{Length, Prefix, Refusal, Route, Slot};
 
 // The groups of slots: one for each length, and the pool.
 const GROUPS: usize = 34;
@@ -39,7 +39,7 @@ impl Lengths {
     // The lengths between length n and the pool.
     fn to(up: bool, n: Length) -> Lengths
         requires { n.0 ≤ 32 }
-        ensures lengths { lengths_of result ≡ lengths_to 32 up n.0 }
+        ensures lengths { lengths_of result ≡ lengths_to 32 result.up n.0 }
         ensures up { result.up ≡ up }
     {
         if Length(16) <= n {
@@ -82,11 +82,12 @@ impl Iterator for Lengths {
 }
 
 // The slot that holds a prefix.
-fn find(table: &Table, address: u32, n: Length) -> Option<Slot>
-    ensures { place_of result ≡ first_slot (of_prefix address n.0) 0 (cells table.now.addresses.now table.now.tags.now) }
+fn find(table: &Table, p: Prefix) -> Option<Slot>
+    ensures first { place_of result ≡ first_slot (of_prefix p.address p.length.0) 0 (cells table.now.addresses.now table.now.tags.now) }
+    ensures inside { IfSome result (λ s. s.0 < length table.now.addresses.now) }
 {
     for i in 0..table.len() {
-        if table.cell(Slot(i)).has_prefix(address, n) {
+        if table.cell(Slot(i)).has_prefix(p) {
             return Some(Slot(i));
         }
     }
@@ -106,9 +107,10 @@ fn find_edges(table: &Table, up: bool) -> [Option<Slot>; GROUPS]
     requires { slot_fault 32 0 (cells table.now.addresses.now table.now.tags.now) ≡ fine }
     ensures { EdgesOf 32 up (cells table.now.addresses.now table.now.tags.now) result }
 {
+    let m = table.len();
     let mut edges = [None; GROUPS];
-    for k in 0..table.len() {
-        let s = visit(up, table.len(), k);
+    for k in 0..m {
+        let s = visit(up, m, k);
         edges[table.cell(s).group().0] = Some(s);
     }
     edges
@@ -141,7 +143,8 @@ impl<'a> Chain<'a> {
     fn to(table: &Table<'a>, up: bool, n: Length) -> Chain<'a>
         requires { (slot_fault 32 0 (cells table.now.addresses.now table.now.tags.now) ≡ fine) × (n.0 ≤ 32) }
         ensures table { (result.table.addresses.now ≡ table.now.addresses.now) × (result.table.tags.now ≡ table.now.tags.now) }
-        ensures lengths { (lengths_of result.lengths ≡ lengths_to 32 up n.0) × (result.lengths.up ≡ up) }
+        ensures lengths { lengths_of result.lengths ≡ lengths_to 32 result.lengths.up n.0 }
+        ensures up { result.lengths.up ≡ up }
     {
         Chain {
             table: *table,
@@ -167,15 +170,16 @@ impl<'a> Chain<'a> {
         self.edges[Group::pool().0]
     }
 
-    // How many of the lengths have an edge slot.
-    fn moves(&self) -> usize
-        ensures { (result ≡ moves (edge_of self.now.lengths.up (cells self.now.table.addresses.now self.now.table.tags.now)) (lengths_of self.now.lengths)) × (result ≤ self.now.lengths.count) }
+    // How many writes the chain has: one for each of the lengths that has an edge slot, and the last.
+    fn writes(&self) -> usize
+        ensures many { (at : ℕ) → (last : Cell) → result ≡ length (chain_of self.now.lengths (cells self.now.table.addresses.now self.now.table.tags.now) at (cell_of last)) }
+        ensures few { result ≤ 34 }
     {
-        let mut moved = 0;
+        let mut writes = 1;
         for n in self.lengths {
-            moved += usize::from(self.edge(n).is_some());
+            writes += usize::from(self.edge(n).is_some());
         }
-        moved
+        writes
     }
 
     // The copies of the lengths' edge entries, from write `start` of a plan on, then the last cell.
@@ -201,7 +205,7 @@ impl<'a> Chain<'a> {
         requires { pool.0 < length self.now.table.addresses.now }
         ensures { IsPlanned (with_room (length plan.old) fine (chain_of self.now.lengths (cells self.now.table.addresses.now self.now.table.tags.now) pool.0 (cell_of last))) plan.old (counted result) plan.new }
     {
-        let writes = self.moves() + 1;
+        let writes = self.writes();
         if plan.len() < 3 * writes {
             return Err(Refusal::Room);
         }
@@ -219,7 +223,7 @@ impl<'a> Chain<'a> {
         if s == edge {
             return self.plan(edge, free, plan);
         }
-        let total = self.moves() + 2;
+        let total = self.writes() + 1;
         if plan.len() < 3 * total {
             return Err(Refusal::Room);
         }
@@ -232,7 +236,7 @@ impl<'a> Chain<'a> {
 // The plan that sets the absent prefix of c, whose length is n: the lengths between n and the pool
 // make room.
 fn insert(table: &Table, n: Length, c: Cell, plan: &mut [u32]) -> Result<usize, Refusal>
-    requires { TableRows 32 table.now.addresses.now table.now.tags.now × (n.0 ≤ 32) }
+    requires { (slot_fault 32 0 (cells table.now.addresses.now table.now.tags.now) ≡ fine) × (n.0 ≤ 32) }
     ensures { IsPlanned (set_at 32 (cells table.now.addresses.now table.now.tags.now) n.0 (cell_of c) (length plan.old) none) plan.old (counted result) plan.new }
 {
     let chain = Chain::to(table, Length(16) <= n, n);
@@ -259,7 +263,7 @@ fn replace(table: &Table, s: Slot, c: Cell, plan: &mut [u32]) -> Result<usize, R
 
 // The plan that removes the entry of slot s, whose length is n: the gap goes to the pool.
 pub(crate) fn erase(table: &Table, n: Length, s: Slot, plan: &mut [u32]) -> Result<usize, Refusal>
-    requires { TableRows 32 table.now.addresses.now table.now.tags.now × (n.0 ≤ 32) × (s.0 < length table.now.addresses.now) }
+    requires { (slot_fault 32 0 (cells table.now.addresses.now table.now.tags.now) ≡ fine) × (n.0 ≤ 32) × (s.0 < length table.now.addresses.now) }
     ensures { IsPlanned (with_room (length plan.old) fine (remove_present 32 (cells table.now.addresses.now table.now.tags.now) n.0 s.0)) plan.old (counted result) plan.new }
 {
     let chain = Chain::to(table, n < Length(16), n);
@@ -270,27 +274,21 @@ pub(crate) fn erase(table: &Table, n: Length, s: Slot, plan: &mut [u32]) -> Resu
 pub fn plan_set(
     addresses: &[u32],
     tags: &[u32],
-    address: u32,
-    length: Length,
-    hop: Hop,
+    r: Route,
     plan: &mut [u32],
 ) -> Result<usize, Refusal>
-    ensures { IsPlanned (plan_set 32 addresses.now tags.now address length.0 hop.0 (ListN.length plan.old)) plan.old (counted result) plan.new }
+    ensures { IsPlanned (plan_set 32 addresses.now tags.now r.prefix.address r.prefix.length.0 r.hop.0 (ListN.length plan.old)) plan.old (counted result) plan.new }
 {
-    table_check(addresses, tags)?;
-    let p = Route {
-        address,
-        length,
-        hop,
-    };
-    entry_check(0, p)?;
     let table = Table::new(addresses, tags)?;
+    slots_check(&table)?;
+    entry_check(0, r)?;
+    let p = r.prefix;
     let c = Cell {
-        address,
-        tag: length.0 * 65536 + hop.0,
+        address: p.address,
+        tag: p.length.0 * 65536 + r.hop.0,
     };
-    match find(&table, address, length) {
-        None => insert(&table, length, c, plan),
+    match find(&table, p) {
+        None => insert(&table, p.length, c, plan),
         Some(s) => replace(&table, s, c, plan),
     }
 }
@@ -299,15 +297,14 @@ pub fn plan_set(
 pub fn plan_remove(
     addresses: &[u32],
     tags: &[u32],
-    address: u32,
-    length: Length,
+    p: Prefix,
     plan: &mut [u32],
 ) -> Result<usize, Refusal>
-    ensures { IsPlanned (plan_remove 32 addresses.now tags.now address length.0 (ListN.length plan.old)) plan.old (counted result) plan.new }
+    ensures { IsPlanned (plan_remove 32 addresses.now tags.now p.address p.length.0 (ListN.length plan.old)) plan.old (counted result) plan.new }
 {
-    table_check(addresses, tags)?;
-    prefix_check(0, address, length)?;
     let table = Table::new(addresses, tags)?;
-    let s = find(&table, address, length).ok_or(Refusal::Absent)?;
-    erase(&table, length, s, plan)
+    slots_check(&table)?;
+    prefix_check(0, p)?;
+    let s = find(&table, p).ok_or(Refusal::Absent)?;
+    erase(&table, p.length, s, plan)
 }

@@ -1,14 +1,16 @@
 // One slot, and the two rows in which slots are lent.
-ghost use Rattle.std.specs.Prelude.{◌≡◌, ◌<◌, ◌≤◌, length, if◌then◌else◌};
-ghost use Rattle.route.specs.Shown.{route_of, verdict_of};
+ghost use Rattle.std.specs.Prelude.{◌≡◌, ◌≤◌, if◌then◌else◌};
+ghost use Rattle.route.specs.Shown;
+ghost use Rattle.route.specs.Shown.{verdict_of};
 ghost use Rattle.tcam.specs.Slots.{is_free, length_in, hop_in, keeps_s1, is_upper, is_lower, hits, slots_fault};
+ghost use Rattle.tcam.specs.Tables.{route_of};
 ghost use Rattle.tcam.specs.Plans.{of_prefix};
 ghost use Rattle.tcam.specs.Mend.{other_tag_in};
-ghost use Rattle.tcam.specs.Shown.{cell_of, prefix_in, group_of};
+ghost use Rattle.tcam.specs.Shown.{cell_of, group_of};
 
 use crate::MAX_SLOTS;
 use route::rule::{covers, span_of};
-use route::{Hop, Length, Route, Refusal};
+use route::{Hop, Length, Prefix, Refusal, Route};
 
 // The slots of one group: the entries of one length, or the pool's free slots. A row of edge slots
 // has a number for each group, the lengths 0 to 32 and then the pool.
@@ -62,13 +64,22 @@ impl Cell {
         Hop(self.tag % 65536)
     }
 
-    // The prefix with its hop.
-    pub fn prefix(self) -> Route
-        ensures { route_of result ≡ prefix_in (cell_of self) }
+    pub fn prefix(self) -> Prefix
+        ensures address { result.address ≡ self.address }
+        ensures length { result.length.0 ≡ length_in (cell_of self) }
     {
-        Route {
+        Prefix {
             address: self.address,
             length: self.length(),
+        }
+    }
+
+    // The prefix with its hop.
+    pub fn route(self) -> Route
+        ensures { Shown.route_of result ≡ route_of (cell_of self) }
+    {
+        Route {
+            prefix: self.prefix(),
             hop: self.hop(),
         }
     }
@@ -98,11 +109,11 @@ impl Cell {
         !self.is_free() & (self.length() < Length(16))
     }
 
-    // Whether the slot holds the prefix of this address and length.
-    pub fn has_prefix(self, address: u32, n: Length) -> bool
-        ensures { result ≡ of_prefix address n.0 (cell_of self) }
+    // Whether the slot holds this prefix.
+    pub fn has_prefix(self, p: Prefix) -> bool
+        ensures { result ≡ of_prefix p.address p.length.0 (cell_of self) }
     {
-        !self.is_free() & (self.length() == n) & (self.address == address)
+        !self.is_free() & (self.prefix() == p)
     }
 
     // Whether the slot holds the prefix of c with another tag.

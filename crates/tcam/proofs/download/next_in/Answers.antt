@@ -22,7 +22,7 @@ pub loop-i-preserved : goal.loop-i-preserved
 loop-i-preserved c =
     let valid : keeps_s1 32 (cell_of c.cell-c.result) ≡ true = sym c.is_valid.ensures ∙ c.if-not-is_valid.false in
     let used : is_free (cell_of c.cell-c.result) ≡ false = sym c.is_free.ensures ∙ c.if-is_free.false in
-    let ahead = rw (c.key_of.ensures, c.length.ensures) at c.ahead_of-ahead.ensures in
+    let ahead = rw (c.key_of.ensures, c.prefix.ensures.address, c.prefix.ensures.length) at c.ahead_of-ahead.ensures in
     elim c.if-ahead-nearest.branch [
       | then-ahead-nearest w ↦
           λ from b. rw (w.nearest-is, w.next-is)

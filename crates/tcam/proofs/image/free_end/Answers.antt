@@ -1,12 +1,19 @@
--- A block has a used slot, or the search goes on behind it.
-use Rattle.std.proofs.Common.{sym, ◌∙◌, rules}
-use Rattle.route.proofs.Searches.{from_block}
-use Rattle.tcam.proofs.Images.{free-further}
+-- The first used slot is in the block that has one, or all slots are free.
+use Rattle.std.proofs.Common.{rules, ℕ}
+use Rattle.tcam.specs.Shown.{cell_at}
+use Rattle.tcam.specs.Loops.{is_used}
+use Rattle.tcam.proofs.Images.{free-before, free-all}
 use Rattle.tcam.proofs.image.free_end.Goals as goal
 
-pub returns-then-used_among : goal.returns-then-used_among
-returns-then-used_among c = free-further c.loop-j.invariant c.first_used.ensures
+pub returns-in-Some : goal.returns-in-Some
+returns-in-Some c =
+    let t = c.args.table.now in
+    free-before t.addresses.now t.tags.now (search rules)
+    (rw c.len-end.ensures at (c.in-Some.ensures.found (λ (i : ℕ). is_used (cell_at t.addresses.now t.tags.now i)) (λ j b l m e. search rules)))
+    c.first_used.ensures
 
-pub loop-j-preserved : goal.loop-j-preserved
-loop-j-preserved c =
-    from_block c.loop-j.invariant c.lesser-to.result (search rules) (search rules) (sym c.if-used_among.false ∙ c.used_among.ensures)
+pub returns-in-None : goal.returns-in-None
+returns-in-None c =
+    let t = c.args.table.now in
+    rw c.len-end.ensures (free-all t.addresses.now t.tags.now c.requires
+    (rw c.len-end.ensures at (c.in-None.ensures.found (λ (i : ℕ). is_used (cell_at t.addresses.now t.tags.now i)) (λ j b l m e. search rules))))

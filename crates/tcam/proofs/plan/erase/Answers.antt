@@ -1,27 +1,36 @@
 -- The edges on the other side's direction give the length's own edge, and the chain from there is the definition's.
-use Rattle.std.proofs.Common.{◌≡◌, ltb, length, refl, ap, ◌∙◌}
+use Rattle.std.proofs.Common.{◌≡◌, ℕ, ◌<◌, length, refl, ap, ◌∙◌}
+use Rattle.std.specs.Prelude.{Option, None, Some, IfSome}
+use Rattle.std.specs.Option.{unwrap_or}
 use Rattle.route.specs.Refusals.{fine}
+use Rattle.route.specs.declared.Slot.{Slot}
 use Rattle.tcam.specs.Slots.{cells}
-use Rattle.tcam.specs.Plans.{of_length, open_after, with_room}
-use Rattle.tcam.specs.Loops.{edge_of}
-use Rattle.tcam.proofs.Chains.{open-bound}
-use Rattle.tcam.proofs.Planned.{planned-same, erase-chain}
+use Rattle.tcam.specs.Plans.{open_after, with_room}
+use Rattle.tcam.specs.Shown.{place_of}
+use Rattle.tcam.proofs.Planned.{planned-same, lt-test, erase-chain}
 use Rattle.tcam.proofs.plan.erase.Goals as goal
 
-pub plan_gap-requires-clause-addresses_len : goal.plan_gap-requires-clause-addresses_len
-plan_gap-requires-clause-addresses_len c =
-    let a = c.args in
-    let t = c.requires.0 in
-    -- the slot of the length's edge entry
-    let slot : c.or-edge.result.0 ≡ open_after a.s.0 (edge_of (ltb a.n.0 16) (cells a.addresses.now a.tags.now) a.n.0) =
-    c.or-edge.ensures ∙ ap (open_after a.s.0) ((rw c.of_length.ensures at c.edge_in.ensures) ∙ c.find_edges.ensures.of a.n.0 c.requires.1) in
-    (t.equal, t.few, c.requires.2, rw slot (open-bound (ltb a.n.0 16) (of_length a.n.0) a.addresses.now a.tags.now t.equal a.s.0 c.requires.2))
+-- the slot that was found, or else the other
+or-other : (o : Option Slot) (s : Slot) → (unwrap_or o s).0 ≡ open_after s.0 (place_of o)
+or-other None s = refl
+or-other (Some t) s = refl
+
+or-inside : (o : Option Slot) (s : Slot) (n : ℕ) → IfSome o (λ t. t.0 < n) → s.0 < n → (unwrap_or o s).0 < n
+or-inside None s n h l = l
+or-inside (Some t) s n h l = h
+
+pub plan_gap-requires : goal.plan_gap-requires
+plan_gap-requires c =
+    let e = c.to-chain.ensures.table.0 in
+    let inside : c.args.s.0 < length c.to-chain.result.table.addresses.now = rw e c.requires.2 in
+    (inside, rw c.unwrap_or.ensures (or-inside c.edge.result c.args.s _ c.edge.ensures.inside inside))
 
 pub returns : goal.returns
 returns c =
     let a = c.args in
-    let slot : c.or-edge.result.0 ≡ open_after a.s.0 (edge_of (ltb a.n.0 16) (cells a.addresses.now a.tags.now) a.n.0) =
-    c.or-edge.ensures ∙ ap (open_after a.s.0) ((rw c.of_length.ensures at c.edge_in.ensures) ∙ c.find_edges.ensures.of a.n.0 c.requires.1) in
+    let e = c.to-chain.ensures in
+    let cs = cells a.table.now.addresses.now a.table.now.tags.now in
     planned-same (ap (with_room (length a.plan.now) fine)
-    (erase-chain 32 (cells a.addresses.now a.tags.now) a.n.0 a.s.0 c.to.result refl c.to.ensures.1 c.to.ensures.0 slot))
-    c.plan_gap.ensures
+    (erase-chain 32 cs a.n.0 a.s.0 c.to-chain.result.lengths (e.up ∙ c.lt.ensures ∙ lt-test a.n.0 16) e.lengths
+    (rw c.unwrap_or.ensures (or-other c.edge.result a.s ∙ ap (open_after a.s.0) (rw (e.table.0, e.table.1) at c.edge.ensures.edge)))))
+    (rw (e.table.0, e.table.1) at c.plan_gap.ensures)

@@ -1,31 +1,22 @@
 -- The edges on the prefix's side give the pool's slot, and the chain from there is the definition's.
-use Rattle.std.proofs.Common.{leb, length, sym, refl, ap, ◌∙◌}
-use Rattle.tcam.specs.Slots.{is_free, cells}
-use Rattle.tcam.specs.Shown.{cell_of, place_of}
-use Rattle.tcam.proofs.Chains.{edge-bound}
-use Rattle.tcam.proofs.Planned.{planned-refused, planned-same, set_full, set-chain}
+use Rattle.std.proofs.Common.{length, sym, ◌∙◌}
+use Rattle.tcam.specs.Slots.{cells}
+use Rattle.tcam.specs.Shown.{cell_of}
+use Rattle.tcam.proofs.Planned.{planned-refused, planned-same, le-test, set_full, set-chain}
 use Rattle.tcam.proofs.plan.insert.Goals as goal
 
-pub returns-in_default : goal.returns-in_default
-returns-in_default c =
+pub returns-in-None : goal.returns-in-None
+returns-in-None c =
     let a = c.args in
-    planned-refused (set_full 32 (cells a.addresses.now a.tags.now) a.n.0 (cell_of a.c) (length a.plan.now) (leb 16 a.n.0)
-    (sym c.find_edges.ensures.pool ∙ sym (rw c.pool.ensures at c.edge_in-edge.ensures) ∙ ap place_of c.in_default.is))
+    let e = c.to-chain.ensures in
+    planned-refused (set_full 32 (cells a.table.now.addresses.now a.table.now.tags.now) a.n.0 (cell_of a.c) (length a.plan.now) c.to-chain.result.lengths.up
+    (sym (rw (e.table.0, e.table.1) at c.in-None.ensures.edge)))
 
-pub plan_chain-requires-clause-addresses_len : goal.plan_chain-requires-clause-addresses_len
-plan_chain-requires-clause-addresses_len c =
+pub returns-in-Some : goal.returns-in-Some
+returns-in-Some c =
     let a = c.args in
-    let t = c.requires.0 in (
-      t.equal,
-      t.few,
-      edge-bound (leb 16 a.n.0) is_free a.addresses.now a.tags.now t.equal _
-          (sym (ap place_of c.in-At.is) ∙ (rw c.pool.ensures at c.edge_in-edge.ensures) ∙ c.find_edges.ensures.pool),
-    )
-
-pub returns : goal.returns
-returns c =
-    let a = c.args in
+    let e = c.to-chain.ensures in
     planned-same
-    (set-chain 32 (cells a.addresses.now a.tags.now) a.n.0 (cell_of a.c) (length a.plan.now) c.to.result refl
-    (sym c.find_edges.ensures.pool ∙ sym (rw c.pool.ensures at c.edge_in-edge.ensures) ∙ ap place_of c.in-At.is) c.to.ensures.1 c.to.ensures.0)
-    c.plan_chain.ensures
+    (set-chain 32 (cells a.table.now.addresses.now a.table.now.tags.now) a.n.0 (cell_of a.c) (length a.plan.now) c.to-chain.result.lengths
+    (e.up ∙ c.le.ensures ∙ le-test 16 a.n.0) e.lengths (sym (rw (e.table.0, e.table.1) at c.in-Some.ensures.edge)))
+    (rw (e.table.0, e.table.1) at c.plan.ensures)

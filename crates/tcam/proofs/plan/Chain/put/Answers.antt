@@ -1,5 +1,5 @@
 -- The length's edge entry has a slot, and there is room for its copy.
-use Rattle.std.proofs.Common.{length, sym, ◌∙◌, arith}
+use Rattle.std.proofs.Common.{sym, ◌∙◌, arith}
 use Rattle.tcam.specs.Slots.{cells}
 use Rattle.tcam.specs.Shown.{cell_of}
 use Rattle.tcam.specs.Loops.{edge_of}
