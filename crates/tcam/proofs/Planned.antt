@@ -1,10 +1,9 @@
 -- What a plan answers and leaves in the lent row: refused, the row as it was; else its writes, and the cells past them as found.
-use Rattle.std.proofs.Common.{◌≡◌, ℕ, ◌+◌, ◌-◌, ◌*◌, ◌/◌, ◌<◌, ◌≤◌, Bool, true, false, cond, not, ltb, leb, List, [], ◌∷◌, ◌++◌, length, get_or, drop, refl, ap, ◌∙◌, zero-add, arith, le-ltb, lt-ltb, eqb, leb-false, leb-true}
+use Rattle.std.proofs.Common.{◌≡◌, ℕ, ◌+◌, ◌-◌, ◌*◌, ◌/◌, ◌<◌, ◌≤◌, Bool, true, false, cond, not, leb, List, [], ◌∷◌, ◌++◌, length, get_or, drop, refl, ap, ◌∙◌, zero-add, arith, le-ltb, lt-ltb, eqb}
 use mathlib.Core.Option.{Option, none, some}
 use lib.Seq.{sets, sets-eq}
 use Rattle.std.specs.Ordering.{is_le, is_lt, nat_cmp}
 use Rattle.std.proofs.lemmas.Bool.Decides.{nat_tests}
-use Rattle.route.proofs.Tests.{by_test}
 use Rattle.route.specs.Refusals.{Answer, value, refused, fine, room_refusal, full_refusal}
 use Rattle.tcam.specs.Slots.{Cell, is_free, free}
 use Rattle.tcam.specs.Plans.{Write, Planned, refuses, writes, with_room, numbers, IsPlanned, write, chain, remove_by}

@@ -1,5 +1,5 @@
 -- The pass for repeats: what slot i comes to, and that the slots before it repeat a prefix at most once.
-use Rattle.std.proofs.Common.{◌≡◌, ℕ, zero, suc, ◌+◌, ◌-◌, ◌<◌, ◌≤◌, Bool, true, false, not, ◌||◌, eqb, List, [], length, drop, sym, refl, ap, ◌∙◌, add-one, arith, drop_of_length-le}
+use Rattle.std.proofs.Common.{◌≡◌, ℕ, zero, suc, ◌+◌, ◌-◌, ◌<◌, ◌≤◌, Bool, true, false, not, ◌||◌, eqb, List, [], length, drop, sym, refl, subst, ap, ◌∙◌, add-one, arith, drop_of_length-le}
 use Rattle.std.specs.Prelude.{Option as Optional, None, Some, Result, Ok, Err}
 use Rattle.std.specs.Option.{is_some as has}
 use mathlib.Core.Bool.{and-false, and-true, or_comm}
@@ -9,20 +9,21 @@ use Rattle.route.specs.Refusals.{fine, fault, fault_if, image_refusal}
 use Rattle.route.specs.Shown.{number, place}
 use Rattle.route.specs.Lists.{any}
 use Rattle.route.specs.Loops.{before}
-use Rattle.tcam.specs.Slots.{Cell, cells, is_free, length_in, same_prefix_in, repeats}
-use Rattle.tcam.specs.Plans.{is_some, or_else}
-use Rattle.tcam.specs.Mend.{other_tag_in, contradicts, repeat_fault, repeat_slot}
-use Rattle.tcam.specs.Loops.{repeats_at, FreeBetween, EntryAt, unless_refused, since_at, fails_at, RepeatWith, TableRows}
+use Rattle.tcam.specs.Slots.{Cell, cells, slot_fault, size_fault, is_free, length_in, same_prefix_in, repeats}
+use Rattle.tcam.specs.Plans.{is_some, or_else, remove_present, with_room}
+use Rattle.tcam.specs.Mend.{order_fault, plan_mend, other_tag_in, contradicts, repeat_fault, repeat_slot}
+use Rattle.tcam.specs.Loops.{repeats_at, FreeBetween, EntryAt, unless_refused, since_at, fails_at, RepeatWith, MendFound}
 use Rattle.tcam.specs.Shown.{cell_of, place_of, cell_at}
 use Rattle.tcam.specs.Searches.{any_between}
 use Rattle.tcam.specs.declared.image.Here.{Here}
 use Rattle.route.specs.declared.Refusal.{Refusal}
 use Rattle.route.specs.declared.Refusal.TheVariants.{Image}
 use Rattle.route.specs.declared.Slot.{Slot}
-use Rattle.route.proofs.Tests.{by_test, is_false, and_parts, or_parts, clash}
+use Rattle.route.proofs.Tests.{by_test, is_false, and_parts, or_parts, in_turn, clash}
 use Rattle.route.proofs.Members.{none-stronger}
 use Rattle.tcam.proofs.Cells.{used-short, slot-keeps}
 use Rattle.tcam.proofs.Rows.{cells_at, get_or-cells}
+use Rattle.tcam.proofs.SlotsAgree.{order_keeps_s1}
 use Rattle.tcam.proofs.OrElse.{or-else-assoc, or_else_none, or-else-cond, or_else_some}
 use Rattle.tcam.proofs.Runs.{run_holds_lem, repeats-in-run}
 use Rattle.tcam.proofs.RunLoops.{run-other}
@@ -73,12 +74,12 @@ module _ (at : ℕ → Cell) (i : ℕ) where
   with-once None None e b q = rw (not-false _ (or_parts (not (repeats_at at i)) false e).0, b, q) (refl, refl)
 
 -- another tag stands before a slot exactly where it stands in the run of its length
-pub contradicts-in-run : (h : Here) (b : Bool) → (not (repeats_at (cell_at h.table.addresses.now h.table.tags.now) h.slot.0) || b) ≡ false →
-    any_between (λ (j : ℕ). other_tag_in (cell_of h.cell) (cell_at h.table.addresses.now h.table.tags.now j)) h.seen.run.0 h.slot.0
-    ≡ contradicts (cell_at h.table.addresses.now h.table.tags.now h.slot.0) (before (cell_at h.table.addresses.now h.table.tags.now) h.slot.0)
+pub contradicts-in-run : (h : Here) (b : Bool) → (not (repeats_at (cell_at h.table.now.addresses.now h.table.now.tags.now) h.slot.0) || b) ≡ false →
+    any_between (λ (j : ℕ). other_tag_in (cell_of h.cell) (cell_at h.table.now.addresses.now h.table.now.tags.now j)) h.seen.run.0 h.slot.0
+    ≡ contradicts (cell_at h.table.now.addresses.now h.table.now.tags.now h.slot.0) (before (cell_at h.table.now.addresses.now h.table.now.tags.now) h.slot.0)
 contradicts-in-run h b e =
-    let r = not-false _ (or_parts (not (repeats_at (cell_at h.table.addresses.now h.table.tags.now) h.slot.0)) b e).0 in
-    let at = cell_at h.table.addresses.now h.table.tags.now in
+    let r = not-false _ (or_parts (not (repeats_at (cell_at h.table.now.addresses.now h.table.now.tags.now) h.slot.0)) b e).0 in
+    let at = cell_at h.table.now.addresses.now h.table.now.tags.now in
     let x = at h.slot.0 in
     let bs = before at h.slot.0 in
     let u = repeats-used at h.slot.0 r in
@@ -88,13 +89,13 @@ contradicts-in-run h b e =
     ∙ rw (h.tested.run.is (length_in x), nearest r u) refl))
   where
     -- its run is not empty
-    nearest : repeats_at (cell_at h.table.addresses.now h.table.tags.now) h.slot.0 ≡ true → is_free (cell_at h.table.addresses.now h.table.tags.now h.slot.0) ≡ false
-        → eqb (length_in (cell_at h.table.addresses.now h.table.tags.now h.slot.0)) h.seen.nearest.0 ≡ true
+    nearest : repeats_at (cell_at h.table.now.addresses.now h.table.now.tags.now) h.slot.0 ≡ true → is_free (cell_at h.table.now.addresses.now h.table.now.tags.now h.slot.0) ≡ false
+        → eqb (length_in (cell_at h.table.now.addresses.now h.table.now.tags.now h.slot.0)) h.seen.nearest.0 ≡ true
     nearest r u =
-        let at = cell_at h.table.addresses.now h.table.tags.now in
+        let at = cell_at h.table.now.addresses.now h.table.now.tags.now in
         by_test (eqb (length_in (at h.slot.0)) h.seen.nearest.0)
         (λ t. t)
-        (λ t. clash r (sym (run-other h.table.addresses.now h.table.tags.now h.tested.run (at h.slot.0) u t
+        (λ t. clash r (sym (run-other h.table.now.addresses.now h.table.now.tags.now h.tested.run (at h.slot.0) u t
         ∙ sym (repeats-in-run 32 (at h.slot.0) (before at h.slot.0) (h.placed, h.tested.in_order)))))
 
 -- the slots before slot i repeat a prefix at most once, at the slot o: what is left gives the whole verdict, and the slot
@@ -159,7 +160,25 @@ repeat-entry ad ts e = go (length ad) 0 (omega arith)
         (λ t. rw t (omega arith, repeats-used (cell_at ad ts) i t))
         (λ t. rw (t, add-one) (rw add-one at (go k (i + 1) (omega arith)))))
 
--- and its length is at most W where slots keep S1
-pub entry-short : {W : ℕ} {ad ts : List ℕ} → TableRows W ad ts → (s : ℕ) → EntryAt ad ts (some s) → length_in (cell_at ad ts s) ≤ W
-entry-short {W} {ad} {ts} t s e =
-    used-short W (cell_at ad ts s) (rw (get_or-cells ad ts s t.equal e.0) at (slot-keeps W 0 (cells ad ts) s t.keeps)) e.1
+-- the later copy in slot s, as it was found in a table of a right size: it is in the table, its length is at most 32, the slots keep S1, and the
+-- writes of a mend are those of its removal
+module _ (ad ts : List ℕ) (e : length ad ≡ length ts) {o : Optional Slot} {s : Slot} (t : o ≡ Some s) (h : MendFound 32 (cells ad ts) (Ok o)) where
+  found-slot : some s.0 ≡ repeat_slot 0 [] (cells ad ts)
+  found-slot = ap place_of (sym t) ∙ h.1
+
+  found-entry : EntryAt ad ts (some s.0)
+  found-entry = subst (λ (x : Option ℕ). EntryAt ad ts x) (sym found-slot) (repeat-entry ad ts e)
+
+  pub found-inside : s.0 < length ad
+  found-inside = found-entry.0
+
+  pub found-keeps : slot_fault 32 0 (cells ad ts) ≡ fine
+  found-keeps = order_keeps_s1 32 0 0 [] (cells ad ts) (in_turn (order_fault 32 0 [] (cells ad ts)) _ (sym h.0)).0
+
+  pub found-short : length_in (cell_at ad ts s.0) ≤ 32
+  found-short =
+      used-short 32 (cell_at ad ts s.0) (rw (get_or-cells ad ts s.0 e found-inside) at (slot-keeps 32 0 (cells ad ts) s.0 found-keeps)) found-entry.1
+
+  pub found-planned : (room : ℕ) → fine ≡ size_fault ad ts →
+      plan_mend 32 ad ts room ≡ with_room room fine (remove_present 32 (cells ad ts) (length_in (cell_at ad ts s.0)) s.0)
+  found-planned room z = rw (← z, ← h.0, ← found-slot, get_or-cells ad ts s.0 e found-inside) refl

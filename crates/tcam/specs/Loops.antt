@@ -1,5 +1,5 @@
 -- What the contracts of leaves and of loops speak of. No promise of a public call cites it.
-use Rattle.std.specs.Prelude.{◌≡◌, ℕ, ◌+◌, ◌-◌, ◌*◌, ◌/◌, ◌<◌, ◌≤◌, Bool, true, false, cond, not, ◌&&◌, ◌||◌, List, [], ◌∷◌, length, get_or, ◌==◌, nat_le, nat_lt, slice_index, Option as Optional, None, Some, Result, Ok, Err}
+use Rattle.std.specs.Prelude.{◌≡◌, ℕ, ◌+◌, ◌-◌, ◌*◌, ◌/◌, ◌<◌, ◌≤◌, Bool, true, false, cond, not, ◌&&◌, ◌||◌, List, [], length, get_or, ◌==◌, nat_le, nat_lt, slice_index, Option as Optional, None, Some, Result, Ok, Err}
 use Rattle.std.proofs.Math.Option.{Option, none, some}
 use Rattle.route.specs.Refusals.{Verdict, fine, fault, fault_if, ◌then◌, image_refusal}
 use Rattle.route.specs.Shown.{number, place}

@@ -6,7 +6,7 @@
 // it, and there by address alone; the pass keeps where that run begins. The filter comes first: where
 // it says that a prefix was not noted, nothing is compared. Behind a free slot the free slots that
 // follow are passed over block by block.
-ghost use Rattle.std.specs.Prelude.{◌≡◌, ◌+◌, ◌-◌, ◌<◌, ◌≤◌, false, [], length, if◌then◌else◌, nat_eq};
+ghost use Rattle.std.specs.Prelude.{◌≡◌, ◌+◌, ◌-◌, ◌<◌, ◌≤◌, false, [], length, if◌then◌else◌, nat_eq, slice_index, ◌==◌};
 ghost use Rattle.std.proofs.Props.{props};
 ghost use Rattle.route.specs.Lists.{any};
 ghost use Rattle.route.specs.Loops.{before, places_from};
@@ -14,6 +14,7 @@ ghost use Rattle.route.specs.Shown.{verdict_of, counted};
 ghost use Rattle.tcam.specs.Slots.{max_slots, cells, breaks, image_fault, table_fault, used_in, slot_check};
 ghost use Rattle.tcam.specs.Runs.{InOrder-prop};
 ghost use Rattle.tcam.specs.Shown.{cell_of, cell_at};
+ghost use Rattle.tcam.specs.Searches.{any_between};
 ghost use Rattle.tcam.specs.Loops.{misplaced_by, SeenNone, SeenWith, SeenPast, TestedBefore, PlacedAt, repeats_at, FreeBetween, FreeEnd};
 
 use crate::MAX_SLOTS;
@@ -90,6 +91,16 @@ impl Seen {
     }
 }
 
+// Whether a slot from slot `from` up to slot `to` has the address. It is a function of its own in the
+// compiled code, as `free_end` is: the pass hardly ever calls them, and keeps its values in registers.
+#[inline(never)]
+fn stands_between(addresses: &[u32], from: usize, to: usize, address: u32) -> bool
+    requires { (from ≤ to) × (to ≤ length addresses.now) }
+    ensures { result ≡ any_between (λ j. slice_index addresses.now j == address) from to }
+{
+    first_block(from, to, &|j| addresses[j] == address).is_some()
+}
+
 // The first used slot from slot `from` on, or the number of slots, slot by slot.
 fn first_used(table: &Table, from: usize) -> Slot
     requires { from ≤ length table.now.addresses.now }
@@ -104,6 +115,7 @@ fn first_used(table: &Table, from: usize) -> Slot
 }
 
 // The same, block by block, and slot by slot in the first block that has a used slot.
+#[inline(never)]
 fn free_end(table: &Table, from: usize) -> Slot
     requires { from ≤ length table.now.addresses.now }
     ensures { FreeEnd table.now.addresses.now table.now.tags.now from result.0 }
@@ -126,23 +138,23 @@ pub struct Passed {
 // of them, and whether the cell's prefix was noted. Where it was not, no slot before holds that.
 #[derive(Clone, Copy)]
 pub struct Here<'a> {
-    pub table: Table<'a>,
+    pub table: &'a Table<'a>,
     pub slot: Slot,
     pub cell: Cell,
     pub seen: Seen,
     pub noted: bool,
-    ghost within: { slot.0 < length table.addresses.now },
-    ghost holds: { cell_of cell ≡ cell_at table.addresses.now table.tags.now slot.0 },
-    ghost tested: { TestedBefore 32 (cell_at table.addresses.now table.tags.now) seen slot.0 } by { Prim.hlevel (props, InOrder-prop) },
-    ghost placed: { PlacedAt 32 (cell_at table.addresses.now table.tags.now) slot.0 },
-    ghost not_noted: { noted ≡ false → repeats_at (cell_at table.addresses.now table.tags.now) slot.0 ≡ false },
+    ghost within: { slot.0 < length table.now.addresses.now },
+    ghost holds: { cell_of cell ≡ cell_at table.now.addresses.now table.now.tags.now slot.0 },
+    ghost tested: { TestedBefore 32 (cell_at table.now.addresses.now table.now.tags.now) seen slot.0 } by { Prim.hlevel (props, InOrder-prop) },
+    ghost placed: { PlacedAt 32 (cell_at table.now.addresses.now table.now.tags.now) slot.0 },
+    ghost not_noted: { noted ≡ false → repeats_at (cell_at table.now.addresses.now table.now.tags.now) slot.0 ≡ false },
 }
 
 impl<'a> Here<'a> {
     // Whether the slot repeats an earlier prefix. Where it has another length than the nearest entry, its run
     // is empty.
     pub(crate) fn repeats_earlier(&self) -> bool
-        ensures { result ≡ repeats_at (cell_at self.now.table.addresses.now self.now.table.tags.now) self.now.slot.0 }
+        ensures { result ≡ repeats_at (cell_at self.now.table.now.addresses.now self.now.table.now.tags.now) self.now.slot.0 }
     {
         let c = self.cell;
         if c.is_free() | !self.noted {
@@ -151,18 +163,17 @@ impl<'a> Here<'a> {
         if c.length() != self.seen.nearest {
             return false;
         }
-        let addresses = self.table.addresses;
-        first_block(self.seen.run.0, self.slot.0, &|j| addresses[j] == c.address).is_some()
+        stands_between(self.table.addresses, self.seen.run.0, self.slot.0, c.address)
     }
 
     // Past the slot: an entry, or a free slot with those that follow it.
     pub(crate) fn past(&self) -> Passed
-        ensures tested { TestedBefore 32 (cell_at self.now.table.addresses.now self.now.table.tags.now) result.seen result.next.0 }
-        ensures free { FreeBetween self.now.table.addresses.now self.now.table.tags.now (self.now.slot.0 + 1) result.next.0 }
+        ensures tested { TestedBefore 32 (cell_at self.now.table.now.addresses.now self.now.table.now.tags.now) result.seen result.next.0 }
+        ensures free { FreeBetween self.now.table.now.addresses.now self.now.table.now.tags.now (self.now.slot.0 + 1) result.next.0 }
     {
         let i = self.slot.0;
         if self.cell.is_free() {
-            let next = free_end(&self.table, i + 1);
+            let next = free_end(self.table, i + 1);
             return Passed {
                 seen: self.seen.past(next),
                 next,
@@ -191,7 +202,7 @@ fn check_with<const WORDS: usize>(table: &Table) -> Result<(), Refusal>
             return Err(Refusal::Image(i));
         }
         let here = Here {
-            table: *table,
+            table: &*table,
             slot,
             cell,
             seen,
@@ -207,15 +218,26 @@ fn check_with<const WORDS: usize>(table: &Table) -> Result<(), Refusal>
     Ok(())
 }
 
+// The same with a larger filter: a function of its own in the compiled code, so that its filters are in no
+// frame of a short table.
+#[inline(never)]
+fn long_check(table: &Table) -> Result<(), Refusal>
+    ensures { verdict_of result ≡ image_fault 32 0 [] (cells table.now.addresses.now table.now.tags.now) }
+{
+    if table.len() <= 1024 {
+        return check_with::<512>(table);
+    }
+    check_with::<4096>(table)
+}
+
 // The same with a filter whose size goes with the table's.
 pub(crate) fn slots_check(table: &Table) -> Result<(), Refusal>
     ensures { verdict_of result ≡ image_fault 32 0 [] (cells table.now.addresses.now table.now.tags.now) }
 {
-    match table.len() {
-        0..=64 => check_with::<16>(table),
-        65..=1024 => check_with::<512>(table),
-        _ => check_with::<4096>(table),
+    if table.len() <= 64 {
+        return check_with::<16>(table);
     }
+    long_check(table)
 }
 
 // How many slots from slot `from` up to slot `to` are used. With a count of 32 bits several slots are

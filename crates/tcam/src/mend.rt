@@ -43,7 +43,7 @@ impl Repeats {
 
     // With a slot more.
     fn with(self, here: &Here) -> Repeats
-        ensures { RepeatWith (cell_at here.now.table.addresses.now here.now.table.tags.now) (repeat_of self) here.now.slot.0 (repeat_of result) }
+        ensures { RepeatWith (cell_at here.now.table.now.addresses.now here.now.table.now.tags.now) (repeat_of self) here.now.slot.0 (repeat_of result) }
     {
         if !here.repeats_earlier() | self.refused.is_some() {
             return self;
@@ -97,7 +97,7 @@ fn mend_check<const WORDS: usize>(table: &Table) -> Result<Option<Slot>, Refusal
             return Err(Refusal::Image(i));
         }
         let here = Here {
-            table: *table,
+            table: &*table,
             slot,
             cell,
             seen,

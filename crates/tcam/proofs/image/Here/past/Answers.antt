@@ -8,7 +8,7 @@ pub returns-then-is_free : goal.returns-then-is_free
 returns-then-is_free c =
     let h = c.args.self.now in
     let r = c.free_end-next.ensures.between in record {
-      tested = tested-past h.table.addresses.now h.table.tags.now h.tested h.placed
+      tested = tested-past h.table.now.addresses.now h.table.now.tags.now h.tested h.placed
           (sym (ap is_free h.holds) ∙ sym c.is_free.ensures ∙ c.if-is_free.true) r c.past.ensures;
       free = r;
     }
@@ -16,7 +16,7 @@ returns-then-is_free c =
 pub returns : goal.returns
 returns c =
     let h = c.args.self.now in record {
-      tested = tested-with h.table.addresses.now h.table.tags.now h.tested h.placed h.holds
+      tested = tested-with h.table.now.addresses.now h.table.now.tags.now h.tested h.placed h.holds
           (sym c.is_free.ensures ∙ c.if-is_free.false) c.with.ensures;
       free = none_between (search rules);
     }

@@ -1,9 +1,8 @@
 -- S1 to S4 hold up to the entry, so its run decides.
-use Rattle.std.proofs.Common.{rules, ℕ, not, slice_index, ◌==◌, sym, ◌∙◌}
+use Rattle.std.proofs.Common.{not, sym, ◌∙◌}
 use borrow.Author.Tests.{not-false, not-true}
 use Rattle.route.proofs.Tests.{or_parts}
 use Rattle.tcam.proofs.RunLoops.{here-other, here-same}
-use Rattle.tcam.proofs.Searched.{block-found}
 use Rattle.tcam.proofs.image.Here.repeats_earlier.Goals as goal
 
 pub returns-then-ne : goal.returns-then-ne
@@ -15,7 +14,6 @@ returns-then-ne c =
 pub returns : goal.returns
 returns c =
     let h = c.args.self.now in
-    c.is_some.ensures
-    ∙ block-found (λ (j : ℕ). slice_index h.table.addresses.now j == h.cell.address) h.seen.run.0 h.slot.0 _ (c.first_block.ensures.found _ (λ j b l m e. search rules))
+    c.stands_between.ensures
     ∙ here-same h (sym c.is_free.ensures ∙ (or_parts _ (not h.noted) c.if-is_free-self.false).0)
     (not-false _ (rw c.length.ensures at (sym c.ne.ensures ∙ c.if-ne.false)))

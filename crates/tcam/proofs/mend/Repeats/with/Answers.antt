@@ -8,13 +8,13 @@ use Rattle.tcam.proofs.mend.Repeats.with.Goals as goal
 pub returns-then-repeats_earlier-is_some : goal.returns-then-repeats_earlier-is_some
 returns-then-repeats_earlier-is_some c =
     let h = c.args.here.now in
-    with-same (cell_at h.table.addresses.now h.table.tags.now) h.slot.0 c.args.self.refused c.args.self.later
+    with-same (cell_at h.table.now.addresses.now h.table.now.tags.now) h.slot.0 c.args.self.refused c.args.self.later
     (rw (c.repeats_earlier.ensures, c.is_some.ensures) at c.if-repeats_earlier-is_some.true)
 
 pub returns-then-is_some-other : goal.returns-then-is_some-other
 returns-then-is_some-other c =
     let h = c.args.here.now in
-    let at = cell_at h.table.addresses.now h.table.tags.now in
+    let at = cell_at h.table.now.addresses.now h.table.now.tags.now in
     let e = rw (c.repeats_earlier.ensures, c.is_some.ensures) at c.if-repeats_earlier-is_some.false in
     let told = c.any_among-other.ensures (λ (j : ℕ). other_tag_in (cell_of h.cell) (at j)) (λ j b l m o. search rules) ∙ contradicts-in-run h _ e in
     with-bad at h.slot.0 c.args.self.refused c.args.self.later e (rw (c.is_some-2.ensures, told) at c.if-is_some-other.true)
@@ -22,7 +22,7 @@ returns-then-is_some-other c =
 pub returns : goal.returns
 returns c =
     let h = c.args.here.now in
-    let at = cell_at h.table.addresses.now h.table.tags.now in
+    let at = cell_at h.table.now.addresses.now h.table.now.tags.now in
     let e = rw (c.repeats_earlier.ensures, c.is_some.ensures) at c.if-repeats_earlier-is_some.false in
     let told = c.any_among-other.ensures (λ (j : ℕ). other_tag_in (cell_of h.cell) (at j)) (λ j b l m o. search rules) ∙ contradicts-in-run h _ e in
     with-once at h.slot.0 c.args.self.refused c.args.self.later e (rw (c.is_some-2.ensures, told) at c.if-is_some-other.false) refl
