@@ -17,7 +17,7 @@ use Rattle.records.specs.Records.{Update, Reply, update, ended, refused_at, reco
 use Rattle.records.proofs.Places.{ahead}
 use Rattle.lines.specs.Lines.{slot_line, end_line, max_line}
 use Rattle.lines.proofs.Sizes.{header-fits, refused-fits, slot-fits}
-use Rattle.history.specs.Reports.{Rows, slots, plan_room, plan_of, after, update_text}
+use Rattle.history.specs.Reports.{Rows, slots, plan_room, plan_of, after, after_update, update_text}
 use Rattle.history.specs.Stages.{slot_at, is_done, is_stage_of, step_text, step_to, steps_left, record_text, behind_record}
 use Rattle.history.specs.Steps.{Ready}
 use Rattle.history.specs.declared.Stage.{Stage}
@@ -78,6 +78,11 @@ pub step-ready : (bs : List ℕ) (s : Stage) (t : Rows) → Ready bs s t → Rea
 step-ready bs s t r =
     let h = step-size bs s t in
     record { equal = h.addresses ∙ r.equal ∙ sym h.tags; placed = step-placed bs s t r }
+
+-- behind a record that was read and whose update was made
+pub reading-ready : {bs : List ℕ} {n at : ℕ} {t : Rows} {u : Update} {next : ℕ} {t' : Rows} → Ready bs (Reading n at) t →
+    update u next ≡ record_at 32 bs at → t' ≡ after_update t u → Ready bs (Reading (n + 1) next) t'
+reading-ready {bs} {n} {at} {t} r e a = rw a (rw (← e) at (step-ready bs (Reading n at) t r))
 
 -- fewer steps are left
 pub step_falls : (bs : List ℕ) (s : Stage) (t : Rows) → Ready bs s t → is_done s ≡ false →

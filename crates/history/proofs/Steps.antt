@@ -37,17 +37,17 @@ module _ {room : ℕ} where
       length (step_text bs (Reading n at) t) ≤ room → length (reported_text (n + 1) t u) ≤ room
   update-fits bs n at t e f = rw (← e) at f
 
-module _ {buffer : List ℕ} {size : ℕ} {buffer' : List ℕ} where
+module _ {bs : List ℕ} {buffer : List ℕ} {size : ℕ} {buffer' : List ℕ} where
   module _ (slot : ℕ) (t : Rows) where
     pub step-slot : slot < length t.addresses → length t.addresses ≡ length t.tags →
         IsPrinted (slot_text slot (cell_at t.addresses t.tags slot)) buffer size buffer' →
-        IsStep [] (Listing (slot_at slot)) t buffer size (Listing (slot_at (slot + 1))) t buffer'
+        IsStep bs (Listing (slot_at slot)) t buffer size (Listing (slot_at (slot + 1))) t buffer'
     step-slot l e p =
         let inside = lt-ltb slot (length t.addresses) l in
         record { stage = rw inside; table = refl; line = rw (inside, get_or-cells t.addresses t.tags slot e l) p }
 
     pub step_end : {a : Answer} → length t.addresses ≤ slot → IsWritten end_line buffer a buffer' → size ≡ size_of a →
-        length (step_text [] (Listing (slot_at slot)) t) ≤ length buffer → IsStep [] (Listing (slot_at slot)) t buffer size Done t buffer'
+        length (step_text bs (Listing (slot_at slot)) t) ≤ length buffer → IsStep bs (Listing (slot_at slot)) t buffer size Done t buffer'
     step_end l w s f =
         let past = le-ltb slot (length t.addresses) l in
         record { stage = rw past; table = refl; line = line-printed (rw past) w s f }

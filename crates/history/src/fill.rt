@@ -31,11 +31,12 @@ impl<'a> Report<'a> {
     // As many lines as fit, or refusal 9 where the next one does not.
     fn fill(&mut self, out: &mut [u8]) -> Result<Part, Refusal>
         requires { length self.old.addresses.now ≤ max_slots }
-        ensures { IsFill
+        ensures fill { IsFill
             (fill_with
             (room_fault self.old.bytes.now self.old.stage (rows self.old.addresses.now self.old.tags.now) (length out.old))
             self.old.bytes.now self.old.stage (rows self.old.addresses.now self.old.tags.now) out.old)
             (fill_answer result) (rows self.new.addresses.now self.new.tags.now) out.new }
+        ensures same_rows { (self.new.addresses.ghost_name ≡ self.old.addresses.ghost_name) × (self.new.tags.ghost_name ≡ self.old.tags.ghost_name) }
     {
         let mut at = 0;
         while self.goes_on(out.len() - at) {

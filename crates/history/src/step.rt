@@ -30,16 +30,17 @@ fn slot_line(slot: Slot, c: Cell, out: &mut [u8]) -> usize
     if c.is_free() {
         return 0;
     }
-    line::slot(slot, c.prefix(), out).unwrap_or(0)
+    line::slot(slot, c.route(), out).unwrap_or(0)
 }
 
 impl<'a> Report<'a> {
     // One step, whose line fits: the bytes that it printed.
-    pub fn step(&mut self, out: &mut [u8]) -> usize
+    pub(crate) fn step(&mut self, out: &mut [u8]) -> usize
         requires { length (step_text self.old.bytes.now self.old.stage (rows self.old.addresses.now self.old.tags.now)) ≤ length out.old }
         ensures step { IsStep self.old.bytes.now self.old.stage (rows self.old.addresses.now self.old.tags.now) out.old
             result self.new.stage (rows self.new.addresses.now self.new.tags.now) out.new }
         ensures bytes_unchanged { self.new.bytes.now ≡ self.old.bytes.now }
+        ensures same_rows { (self.new.addresses.ghost_name ≡ self.old.addresses.ghost_name) × (self.new.tags.ghost_name ≡ self.old.tags.ghost_name) }
     {
         match self.stage {
             Stage::TooLong => {

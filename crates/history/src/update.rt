@@ -24,8 +24,8 @@ fn plan_of(asked: Record, addresses: &[u32], tags: &[u32], plan: &mut [u32]) -> 
         plan.old (counted result) plan.new }
 {
     match asked {
-        Record::Set(p) => plan_set(addresses, tags, p.address, p.length, p.hop, plan),
-        Record::Remove(address, length) => plan_remove(addresses, tags, address, length, plan),
+        Record::Set(r) => plan_set(addresses, tags, r, plan),
+        Record::Remove(p) => plan_remove(addresses, tags, p, plan),
     }
 }
 
@@ -45,8 +45,8 @@ fn accepted_line(nth: usize, asked: Record, writes: usize, used: usize, out: &mu
     ensures { IsWritten (accepted_text nth (update_of asked) writes used) out.old (counted result) out.new }
 {
     match asked {
-        Record::Set(p) => line::set(nth, p, writes, used, out),
-        Record::Remove(address, length) => line::remove(nth, address, length, writes, used, out),
+        Record::Set(r) => line::set(nth, r, writes, used, out),
+        Record::Remove(p) => line::remove(nth, p, writes, used, out),
     }
 }
 
@@ -62,9 +62,11 @@ pub(crate) fn report_update(
     ensures { IsReported nth (update_of asked) (rows addresses.old tags.old) out.old
         result (rows addresses.new tags.new) out.new }
 {
-    let written = match update_table(asked, addresses, tags) {
-        Err(f) => line::refused(nth, f, out),
-        Ok(writes) => accepted_line(nth, asked, writes, used_slots(addresses, tags), out),
-    };
-    written.unwrap_or(0)
+    match update_table(asked, addresses, tags) {
+        Err(f) => line::refused(nth, f, out).unwrap_or(0),
+        Ok(writes) => {
+            let used = used_slots(addresses, tags);
+            accepted_line(nth, asked, writes, used, out).unwrap_or(0)
+        }
+    }
 }
