@@ -26,7 +26,7 @@ ghost use Rattle.hawkmortar.specs.Records.{placed, cells, cells_after};
 ghost use Rattle.std.proofs.Math.ListN;
 
 use records::Record;
-use route::{Hop, Length, Route, Refusal};
+use route::{Hop, Length, Prefix, Refusal, Route};
 use tcam::download::next_entry;
 use tcam::slots::Cell;
 
@@ -103,7 +103,11 @@ pub extern "C" fn hawkmortar_plan_set(
     ensures value { result ≡ outcome (plan_answer (plan_set 32 addresses.now tags.now address length hop (ListN.length plan.old))) }
     ensures plan_after { plan.new ≡ row_after (plan_set 32 addresses.now tags.now address length hop (ListN.length plan.old)) plan.old }
 {
-    Outcome::from(tcam::plan::plan_set(addresses, tags, address, Length(length), Hop(hop), plan))
+    let route = Route {
+        prefix: prefix_of(address, length),
+        hop: Hop(hop),
+    };
+    Outcome::from(tcam::plan::plan_set(addresses, tags, route, plan))
 }
 
 // Plans a removal; the value is the number of writes, which the plan then holds.
@@ -118,7 +122,7 @@ pub extern "C" fn hawkmortar_plan_remove(
     ensures value { result ≡ outcome (plan_answer (plan_remove 32 addresses.now tags.now address length (ListN.length plan.old))) }
     ensures plan_after { plan.new ≡ row_after (plan_remove 32 addresses.now tags.now address length (ListN.length plan.old)) plan.old }
 {
-    Outcome::from(tcam::plan::plan_remove(addresses, tags, address, Length(length), plan))
+    Outcome::from(tcam::plan::plan_remove(addresses, tags, prefix_of(address, length), plan))
 }
 
 // Plans a mend; the value is the number of writes, which the plan then holds.
@@ -171,8 +175,18 @@ pub extern "C" fn hawkmortar_download_next(
     ensures value { result ≡ outcome (given (download 32 addresses.now tags.now (past address length))) }
     ensures after { entry.new ≡ entry_after (download 32 addresses.now tags.now (past address length)) entry.old }
 {
-    let past = Some((address, Length(length)));
-    put_next(next_entry(addresses, tags, past), entry)
+    let past = prefix_of(address, length);
+    put_next(next_entry(addresses, tags, Some(past)), entry)
+}
+
+// The prefix that two numbers say.
+fn prefix_of(address: u32, length: u32) -> Prefix
+    ensures { (result.address ≡ address) × (result.length.0 ≡ length) }
+{
+    Prefix {
+        address,
+        length: Length(length),
+    }
 }
 
 // What a download answered; an entry is put into three cells.
@@ -261,8 +275,8 @@ fn cells_of(r: Record) -> [u32; 4]
     ensures { result ≡ cells (update_of r) }
 {
     match r {
-        Record::Remove(address, length) => [0, length.0, address, 0],
-        Record::Set(p) => [1, p.length.0, p.address, p.hop.0],
+        Record::Remove(p) => [0, p.length.0, p.address, 0],
+        Record::Set(r) => [1, r.prefix.length.0, r.prefix.address, r.hop.0],
     }
 }
 
