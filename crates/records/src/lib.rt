@@ -94,7 +94,7 @@ fn quotient_at(bytes: &[u8], at: usize, length: Length) -> Result<(u32, usize), 
     Ok((x, next))
 }
 
-// The hop at a place.
+// The hop at a place. Inlined, as `number_at` is.
 #[inline(always)]
 fn hop_at(bytes: &[u8], at: usize) -> Result<(Hop, usize), Refusal>
     ensures { reading_by (λ h. h.0) result ≡ checked_at bytes.now at (hop_fault at) }
