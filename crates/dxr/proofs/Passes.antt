@@ -1,10 +1,10 @@
 -- The passes over a range table, from one chunk in which a range starts to the next: which chunks and ranges are passed, how many words
 -- there are, what is written.
-use Prim.Native.Nat.{ℕ, zero, suc, ◌+◌, ◌-◌, ◌*◌, ◌/◌, ◌^◌, ◌≤◌, ◌<◌}
+use Prim.Native.Nat.{ℕ, zero, suc, ◌+◌, ◌-◌, ◌*◌, ◌^◌, ◌≤◌, ◌<◌}
 use mathlib.Core.Path.{◌≡◌, sym, ◌∙◌, ap}
 use mathlib.Core.List.{List, [], ◌∷◌, ◌++◌, append-nil, append_assoc}
 use native.Mathlib.Omega.{arith}
-use native.Mathlib.Nat.{add-zero, div-add-mod', le-div_iff_mul-le, mul-le-mul_right}
+use native.Mathlib.Nat.{add-zero, div-add-mod', le-div_iff_mul-le}
 use native.Mathlib.Numerals.{add-one}
 use borrow.Rule.Slice.PartMut.{put_mid}
 use lib.ListN.{length, get_or, take, drop, set, replicate, length-append, replicate-append-replicate}
@@ -42,10 +42,6 @@ module _ {W S : ℕ} {ss hs : List ℕ} {from c : ℕ} (h : ReachedTo W S ss hs 
   -- up to the chunk in which the next range starts, if there is one
   abbrev pub Free : ℕ → Type 0
   Free d = from + 1 < length ss → d * chunk_size W S ≤ get_or ss (from + 1) 0
-
-  -- it does not start before chunk c
-  pub next-start : from + 1 < length ss → get_or ss from 0 ≤ get_or ss (from + 1) 0 / chunk_size W S * chunk_size W S
-  next-start l = omega (arith, h.start, mul-le-mul_right (chunk_size W S) ((le-div_iff_mul-le (pow_pos (W - S))).1 (h.next l)))
 
   free_at : (k : ℕ) → Free (c + suc k) → Free (c + k + 1)
   free_at k f l = let e : c + suc k ≡ c + k + 1 = omega arith in rw e at (f l)

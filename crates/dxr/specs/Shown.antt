@@ -1,5 +1,6 @@
 -- What the code's types say: a main word, a chunk that is stored, the next chunk of a build, a pass over entries.
-use Rattle.std.specs.Prelude.{ℕ, ◌+◌, ◌-◌, ◌*◌, ◌/◌, ◌^◌, ◌≤◌, ◌<◌, ◌≡◌, Bool, true, false, cond, ◌&&◌, List, eqb, leb, ltb, length, drop, get_or, Option, None, Some, Ok}
+use Rattle.std.specs.Prelude.{ℕ, ◌+◌, ◌-◌, ◌*◌, ◌/◌, ◌^◌, ◌≤◌, ◌<◌, ◌≡◌, Bool, true, false, cond, ◌&&◌, List, eqb, leb, ltb, length}
+use Rattle.std.specs.Prelude.{drop, get_or, Option, None, Some, Ok}
 use Rattle.std.proofs.lemmas.List.Edits.{sets}
 use Rattle.route.specs.Limits.{max_hop}
 use Rattle.route.specs.Refusals.{value}

@@ -19,6 +19,13 @@ use crate::rows::Rows;
 use ranges::MAX_RANGES;
 use route::Refusal;
 
+// A range table of which a DXR table can be made.
+#[derive(Clone, Copy)]
+struct Table<'a> {
+    rows: Rows<'a>,
+    ghost splittable: { Splittable 32 16 rows.starts.now rows.hops.now },
+}
+
 // The next chunk in which a range starts: its number, its ranges, and the place of the last of them.
 #[derive(Clone, Copy)]
 struct Next<'a> {
@@ -40,78 +47,78 @@ fn last_at(starts: &[u32], from: usize, x: u32) -> usize
     starts.len() - 1
 }
 
-// The chunk in which the range behind range `from` starts.
-fn next_chunk<'a>(rows: &Rows<'a>, from: usize) -> Option<Next<'a>>
-    requires splittable { Splittable 32 16 rows.now.starts.now rows.now.hops.now }
-    requires within { from < length rows.now.starts.now }
-    requires start { from + 1 < length rows.now.starts.now → get_or rows.now.starts.now from 0 ≤ get_or rows.now.starts.now (from + 1) 0 / 65536 * 65536 }
-    ensures { NextIs 32 16 rows.now.starts.now rows.now.hops.now from result }
-{
-    if rows.len() <= from + 1 {
-        return None;
+impl<'a> Table<'a> {
+    // The chunk in which the range behind range `from` starts.
+    fn next_chunk(&self, from: usize) -> Option<Next<'a>>
+        requires within { from < length self.now.rows.starts.now }
+        requires start { let ss = self.now.rows.starts.now in from + 1 < length ss → get_or ss from 0 ≤ get_or ss (from + 1) 0 / 65536 * 65536 }
+        ensures { NextIs 32 16 self.now.rows.starts.now self.now.rows.hops.now from result }
+    {
+        let rows = &self.rows;
+        if rows.len() <= from + 1 {
+            return None;
+        }
+        let number = rows.starts[from + 1] / 65536;
+        let base = number * 65536;
+        let first = last_at(rows.starts, from, base);
+        let last = last_at(rows.starts, first, base + 65535);
+        Some(Next {
+            number,
+            chunk: Chunk {
+                rows: rows.part(first, last + 1),
+                base,
+            },
+            last,
+        })
     }
-    let number = rows.starts[from + 1] / 65536;
-    let base = number * 65536;
-    let first = last_at(rows.starts, from, base);
-    let last = last_at(rows.starts, first, base + 65535);
-    Some(Next {
-        number,
-        chunk: Chunk {
-            rows: rows.part(first, last + 1),
-            base,
-        },
-        last,
-    })
-}
 
-// How many range words the table of these ranges has.
-fn count_words(rows: &Rows) -> usize
-    requires { Splittable 32 16 rows.now.starts.now rows.now.hops.now }
-    ensures { result ≡ length (table_words 32 16 (ranges rows.now.starts.now rows.now.hops.now)) }
-{
-    let mut from = 0;
-    let mut count = 0;
-    while let Some(next) = next_chunk(rows, from) {
-        count += next.chunk.main_word(count).words();
-        from = next.last;
+    // How many range words the DXR table has.
+    fn count_words(&self) -> usize
+        ensures { result ≡ length (table_words 32 16 (ranges self.now.rows.starts.now self.now.rows.hops.now)) }
+    {
+        let mut from = 0;
+        let mut count = 0;
+        while let Some(next) = self.next_chunk(from) {
+            count += next.chunk.main_word(count).words();
+            from = next.last;
+        }
+        count
     }
-    count
-}
 
-// Writes the table of these ranges. Up to the next chunk in which a range starts, and behind the last
-// one, a chunk lies in one range and has its hop.
-fn write_table(rows: &Rows, main: &mut [u32], words: &mut [u32])
-    requires splittable { Splittable 32 16 rows.now.starts.now rows.now.hops.now }
-    requires main_len { (length main.old ≡ 65536) × (length (table_words 32 16 (ranges rows.now.starts.now rows.now.hops.now)) ≤ length words.old) }
-    ensures main_after { main.new ≡ overwritten (table_main 32 16 (ranges rows.now.starts.now rows.now.hops.now)) main.old }
-    ensures words_after { words.new ≡ overwritten (table_words 32 16 (ranges rows.now.starts.now rows.now.hops.now)) words.old }
-{
-    let mut from = 0;
-    let mut used = 0;
-    let mut done = 0;
-    while let Some(next) = next_chunk(rows, from) {
-        let place = next.number as usize;
-        main[done..place].fill(rows.hops[from]);
-        let stored = next.chunk.store(words, used);
-        main[place] = stored.word();
-        used += stored.words();
-        from = next.last;
-        done = place + 1;
+    // Writes the DXR table. Up to the next chunk in which a range starts, and behind the last one, a chunk
+    // lies in one range and has its hop.
+    fn write(&self, main: &mut [u32], words: &mut [u32])
+        requires { (length main.old ≡ 65536) × (length (table_words 32 16 (ranges self.now.rows.starts.now self.now.rows.hops.now)) ≤ length words.old) }
+        ensures main_after { main.new ≡ overwritten (table_main 32 16 (ranges self.now.rows.starts.now self.now.rows.hops.now)) main.old }
+        ensures words_after { words.new ≡ overwritten (table_words 32 16 (ranges self.now.rows.starts.now self.now.rows.hops.now)) words.old }
+    {
+        let mut from = 0;
+        let mut used = 0;
+        let mut done = 0;
+        while let Some(next) = self.next_chunk(from) {
+            let place = next.number as usize;
+            main[done..place].fill(self.rows.hops[from]);
+            let stored = next.chunk.store(words, used);
+            main[place] = stored.word();
+            used += stored.words();
+            from = next.last;
+            done = place + 1;
+        }
+        main[done..].fill(self.rows.hops[from]);
     }
-    main[done..].fill(rows.hops[from]);
-}
 
-// The table of ranges of which one can be made: how many range words it has, or refusal 9.
-fn split(rows: &Rows, main: &mut [u32], words: &mut [u32]) -> Result<usize, Refusal>
-    requires { Splittable 32 16 rows.now.starts.now rows.now.hops.now × (length main.old ≡ 65536) }
-    ensures { IsSplit 32 16 (ranges rows.now.starts.now rows.now.hops.now) main.old words.old (counted result) main.new words.new }
-{
-    let count = count_words(rows);
-    if words.len() < count {
-        return Err(Refusal::Room);
+    // The DXR table in both rows: how many range words it has, or refusal 9.
+    fn split(&self, main: &mut [u32], words: &mut [u32]) -> Result<usize, Refusal>
+        requires { length main.old ≡ 65536 }
+        ensures { IsSplit 32 16 (ranges self.now.rows.starts.now self.now.rows.hops.now) main.old words.old (counted result) main.new words.new }
+    {
+        let count = self.count_words();
+        if words.len() < count {
+            return Err(Refusal::Room);
+        }
+        self.write(main, words);
+        Ok(count)
     }
-    write_table(rows, main, words);
-    Ok(count)
 }
 
 // Builds the DXR table of a list in a main table of 65,536 words and in the front of a row of range
@@ -133,9 +140,11 @@ pub fn build(
     let mut starts = [0; MAX_RANGES];
     let mut range_hops = [0; MAX_RANGES];
     let n = ranges::build::build(addresses, lengths, hops, &mut starts, &mut range_hops)?;
-    let rows = Rows {
-        starts: &starts[..n],
-        hops: &range_hops[..n],
+    let table = Table {
+        rows: Rows {
+            starts: &starts[..n],
+            hops: &range_hops[..n],
+        },
     };
-    split(&rows, main, words)
+    table.split(main, words)
 }

@@ -115,8 +115,8 @@ impl<'a> Chunk<'a> {
         requires part_len { length part.old ≡ part_length (is_short_form form) (length (entries_in self.now)) }
         ensures { part.new ≡ encoded (is_short_form form) (entries_in self.now) }
     {
-        for k in 0..part.len() {
-            part[k] = self.word(form, k);
+        for (k, word) in part.iter_mut().enumerate() {
+            *word = self.word(form, k);
         }
     }
 

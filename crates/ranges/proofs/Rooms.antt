@@ -2,7 +2,7 @@
 use Rattle.std.proofs.Common.{◌≡◌, ltb, ◌||◌, true, false, map, sym, ap, ◌∙◌, ℕ, ◌≤◌, List, length, refl, arith, le-ltb}
 use Rattle.route.specs.Entries.{routes_of}
 use Rattle.route.specs.declared.list.List.{List as InRows}
-use Rattle.ranges.specs.Loops.{Tested}
+use Rattle.ranges.specs.Loops.{Accepted}
 use Rattle.route.specs.Refusals.{Verdict, fine, fault, value, refused, unless_fault, room_refusal}
 use Rattle.route.specs.Lists.{routes, rows_fault}
 use Rattle.route.proofs.Accepted.{rows_of_set}
@@ -30,7 +30,7 @@ built-roomy W ad ns hs {a} {b} l m = of_fault (rows_fault W ad ns hs) refl
         rw (e, le-ltb a (length (table_of W ad ns hs)) (omega arith), le-ltb b (length (table_of W ad ns hs)) (omega arith))
 
 -- a list that has been tested, and its ranges: a row is too short for them, or both are written
-module _ (l : InRows) (rs : List InCode) (ok : Tested l) (is : map range_of rs ≡ ranges_of 32 (routes_of l)) where
+module _ (l : InRows) (rs : List InCode) (ok : Accepted l) (is : map range_of rs ≡ ranges_of 32 (routes_of l)) where
   many : length (ranges_of 32 (routes_of l)) ≡ length rs
   many = ap length (sym is) ∙ length-map rs range_of
 

@@ -3,7 +3,8 @@ use Rattle.std.proofs.Common.{◌≡◌, ℕ, zero, suc, ◌+◌, ◌-◌, ◌<�
 use mathlib.Core.List.{map-append}
 use Rattle.route.specs.Loops.{before}
 use Rattle.ranges.specs.Ranges.{Range}
-use Rattle.ranges.specs.Words.{route_in, key_at}
+use Rattle.ranges.specs.Keys.{route_in, key_at}
+use Rattle.ranges.specs.declared.words.Key.{Key}
 use Rattle.ranges.specs.Shown.{range_of}
 use Rattle.ranges.specs.declared.words.Range.{Range as InCode}
 use Rattle.ranges.specs.Sweeps.{last_of, ends_with}
@@ -30,11 +31,11 @@ pub before_last : {A : Type 0} (at : ℕ → A) (n : ℕ) → 0 < n → before a
 before_last at n pos = ap (before at) (let e : n ≡ suc (n - 1) = omega arith in e)
 
 -- a key stored behind those that are open is opened; the keys behind it are as they were
-module _ (ks : List ℕ) (n k : ℕ) where
+module _ (ks : List Key) (n : ℕ) (k : Key) where
   below_set : (m : ℕ) → m ≤ n → before (key_at (set ks n k)) m ≡ before (key_at ks) m
   below_set zero l = refl
   below_set (suc m) l =
-      ap₂ (λ r rs. route_in r ∷ rs) (get_or-set_other ks n m k 0 (λ e. absurd (omega arith))) (below_set m (omega arith))
+      ap₂ (λ r rs. route_in r ∷ rs) (get_or-set_other ks n m k (record { 0 = 0 }) (λ e. absurd (omega arith))) (below_set m (omega arith))
 
   pub before-set : n < length ks → before (key_at (set ks n k)) (n + 1) ≡ route_in k ∷ before (key_at ks) n
-  before-set l = rw (add-one n) (ap₂ (λ r rs. route_in r ∷ rs) (get_or-set_same ks n k 0 l) (below_set n (omega arith)))
+  before-set l = rw (add-one n) (ap₂ (λ r rs. route_in r ∷ rs) (get_or-set_same ks n k (record { 0 = 0 }) l) (below_set n (omega arith)))

@@ -3,7 +3,8 @@ use Rattle.std.proofs.Common.{◌≡◌, ℕ, ◌+◌, ◌-◌, ◌<◌, ◌≤�
 use Rattle.route.specs.Rule.{Route}
 use Rattle.route.specs.Loops.{before}
 use Rattle.ranges.specs.Ranges.{Range, past_end}
-use Rattle.ranges.specs.Words.{route_in, routes_in, key_at}
+use Rattle.ranges.specs.Keys.{route_in, routes_in, key_at}
+use Rattle.ranges.specs.declared.words.Key.{Key}
 use Rattle.ranges.specs.Sweeps.{Sweep, sweep, advanced, ends_by, closed, closed_by, opening, swept}
 use Rattle.ranges.specs.Sweeping.{sweep_of, HasRoom, SameKeys}
 use Rattle.ranges.specs.declared.sweep.Sweep.{Sweep as CodeSweep}
@@ -23,7 +24,7 @@ pub record ClosingAt (x : ℕ) (s₀ s : CodeSweep) : Type 0 where
   pub left : closed_by 32 x (sweep_of s) ≡ closed_by 32 x (sweep_of s₀)
 
 -- the keys before the next one are opened: those that are left give what all of them give
-pub record SweptTo (keys₀ : List ℕ) (s : CodeSweep) : Type 0 where
+pub record SweptTo (keys₀ : List Key) (s : CodeSweep) : Type 0 where
   pub room : HasRoom s
   pub left : swept 32 (sweep_of s) (routes_in (drop s.read s.keys.now)) ≡ swept 32 (sweep [] 0 []) (routes_in keys₀)
 
@@ -43,7 +44,7 @@ module _ {x : ℕ} {s₀ s u t : CodeSweep} (h : ClosingAt x s₀ s) (on : SameK
     }
 
 -- a key stored behind those that are open, where the sweep has closed prefixes and gone on to its address
-pub opening-key : (u : CodeSweep) (s : Sweep) (key : ℕ) → u.opened < length u.keys.now →
+pub opening-key : (u : CodeSweep) (s : Sweep) (key : Key) → u.opened < length u.keys.now →
     sweep_of u ≡ advanced (route_in key).address (closed_by 32 (route_in key).address s) →
     sweep (before (key_at (set u.keys.now u.opened key)) (u.opened + 1)) u.reached (sweep_of u).made ≡ opening 32 s (route_in key)
 opening-key u s key l is =

@@ -1,11 +1,9 @@
 -- What the contracts of leaves and of loops speak of. The contracts of the build and of the lookup cite none of it.
-use Rattle.std.specs.Prelude.{ℕ, ◌≡◌, ◌<◌, ◌+◌, Bool, false, cond, ◌||◌, List, [], ◌∷◌, map, drop, nat_le, slice_index}
+use Rattle.std.specs.Prelude.{ℕ, ◌≡◌, ◌<◌, ◌+◌, Bool, false, cond, ◌||◌, List, [], ◌∷◌, drop, nat_le, slice_index}
 use Rattle.route.specs.Refusals.{Verdict, fine, Answer, value, unless_fault}
 use Rattle.route.specs.Lists.{rows_fault}
 use Rattle.route.specs.declared.list.List.{List as InRows}
-use Rattle.route.specs.Rule.{Route}
 use Rattle.ranges.specs.Ranges.{Range, range, ranges, breaks, ranges_fault, hop_at}
-use Rattle.ranges.specs.Words.{key_of}
 
 -- range i of two rows
 abbrev pub range_at : List ℕ → List ℕ → ℕ → Range
@@ -35,11 +33,7 @@ abbrev pub below : List Range → ℕ → ℕ
 below [] q = 0
 below (r ∷ rs) q = cond (nat_le r.start q) 1 0 + below rs q
 
--- the keys of some routes
-abbrev pub keys_of : List Route → List ℕ
-keys_of rs = map key_of rs
-
 -- a list that has no fault, of 32-bit addresses
-pub record Tested (l : InRows) : Type 0 where
+pub record Accepted (l : InRows) : Type 0 where
   pub sound : rows_fault 32 l.addresses.now l.lengths.now l.hops.now ≡ fine
   pub small : (i : ℕ) → slice_index l.addresses.now i < 4294967296

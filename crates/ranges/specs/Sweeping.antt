@@ -2,7 +2,7 @@
 use Rattle.std.specs.Prelude.{[], ◌≡◌, ◌+◌, ◌-◌, ◌*◌, ◌<◌, map, take, length}
 use Rattle.route.specs.Loops.{before}
 use Rattle.ranges.specs.Sweeps.{Sweep, sweep}
-use Rattle.ranges.specs.Words.{key_at}
+use Rattle.ranges.specs.Keys.{key_at}
 use Rattle.ranges.specs.Shown.{range_of}
 use Rattle.ranges.specs.declared.sweep.Sweep.{Sweep as CodeSweep}
 

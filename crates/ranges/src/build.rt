@@ -10,24 +10,26 @@ ghost use Rattle.route.specs.Rows.{overwritten};
 ghost use Rattle.ranges.specs.Ranges.{max_ranges, starts_of, hops_of};
 ghost use Rattle.ranges.specs.Shown.{range_of};
 ghost use Rattle.ranges.specs.Builds.{IsBuilt};
-ghost use Rattle.ranges.specs.Loops.{keys_of, Tested};
+ghost use Rattle.ranges.specs.Keys.{keys_of};
+ghost use Rattle.ranges.specs.Loops.{Accepted};
 
 use crate::sweep::Sweep;
-use crate::words::{Range, key_of};
+use crate::words::{Key, Range};
 use route::list::List;
 use route::{Hop, Refusal};
 
 // The keys of a list's prefixes.
-fn pack(list: &List, keys: &mut [u64])
+fn pack(list: &List, keys: &mut [Key])
     requires { length keys.old ≡ length list.now.addresses.now }
     ensures { keys.new ≡ keys_of (routes_of list.now) }
 {
     for i in 0..list.len() {
-        keys[i] = key_of(list.entry(i));
+        keys[i] = Key::from(list.entry(i));
     }
 }
 
-// Writes ranges to the front of two rows.
+// Writes ranges to the front of two rows. The rows are a parameter each: if a struct kept them, each
+// contract would have to name the references in it.
 fn write_rows(ranges: &[Range], starts: &mut [u32], range_hops: &mut [u32])
     requires { (length ranges.now ≤ length starts.old) × (length ranges.now ≤ length range_hops.old) }
     ensures starts_after { starts.new ≡ overwritten (starts_of (map range_of ranges.now)) starts.old }
@@ -45,10 +47,10 @@ fn build_in(
     list: &List,
     starts: &mut [u32],
     range_hops: &mut [u32],
-    keys: &mut [u64],
+    keys: &mut [Key],
     ranges: &mut [Range],
 ) -> Result<usize, Refusal>
-    requires tested { Tested list.now }
+    requires accepted { Accepted list.now }
     requires keys_len { (length keys.old ≡ length list.now.addresses.now) × (2 * length keys.old < length ranges.old) }
     ensures { IsBuilt 32 list.now.addresses.now list.now.lengths.now list.now.hops.now starts.old range_hops.old (counted result) starts.new range_hops.new }
 {
@@ -69,11 +71,11 @@ fn build_with<const KEYS: usize, const RANGES: usize>(
     starts: &mut [u32],
     range_hops: &mut [u32],
 ) -> Result<usize, Refusal>
-    requires tested { Tested list.now }
+    requires accepted { Accepted list.now }
     requires scratch { (length list.now.addresses.now ≤ KEYS) × (2 * KEYS < RANGES) × (RANGES ≤ max_ranges) }
     ensures { IsBuilt 32 list.now.addresses.now list.now.lengths.now list.now.hops.now starts.old range_hops.old (counted result) starts.new range_hops.new }
 {
-    let mut keys = [0; KEYS];
+    let mut keys = [Key(0); KEYS];
     let mut ranges = [Range {
         start: 0,
         hop: None,

@@ -28,7 +28,8 @@ fn first_breaks(r: Range) -> bool
     (r.start != 0) | (MAX_HOP < Hop::number_of(r.hop))
 }
 
-// Whether a range breaks a rule behind the range p. Hops are compared by their numbers.
+// Whether a range breaks a rule behind the range p. By its hop's number, since `Some(Hop(0))` shows as
+// none does.
 fn breaks(p: Range, r: Range) -> bool
     ensures { result ≡ breaks (range_of p) (range_of r) }
 {

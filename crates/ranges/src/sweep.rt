@@ -6,10 +6,10 @@
 ghost use Rattle.std.specs.Prelude.{◌≡◌, ◌+◌, ◌-◌, ◌*◌, ◌<◌, ◌≤◌, length, drop, map, IfSome, IfNone};
 ghost use Rattle.route.specs.Shown.{hop_number, route_of};
 ghost use Rattle.ranges.specs.Ranges.{past_end};
-ghost use Rattle.ranges.specs.Words.{key_at, routes_in};
-ghost use Rattle.ranges.specs.Sweeps.{ends_with, joined, open_hop, extended, advanced, ends_by, closed_by, opening, swept_ranges};
+ghost use Rattle.ranges.specs.Keys.{key_at, routes_in};
+ghost use Rattle.ranges.specs.Sweeps.{ends_with, open_hop, extended, advanced, ends_by, closed_by, opening, swept_ranges};
 
-use crate::words::{Range, route_from};
+use crate::words::{Key, Range};
 use route::rule::span_of;
 use route::{Hop, Route};
 use std::num::wrapping_add_u32;
@@ -18,7 +18,7 @@ use std::num::wrapping_add_u32;
 // ranges are made, and how many there are.
 #[derive(Drop)]
 pub(crate) struct Sweep<'a> {
-    keys: &'a mut [u64],
+    keys: &'a mut [Key],
     ranges: &'a mut [Range],
     read: usize,
     opened: usize,
@@ -50,7 +50,7 @@ impl<'a> Sweep<'a> {
     ghost use Rattle.ranges.specs.Sweeping.{sweep_of, HasRoom, Starts, SameKeys};
 
     // A sweep over these keys.
-    pub(crate) fn new(keys: &'a mut [u64], ranges: &'a mut [Range]) -> Sweep<'a>
+    pub(crate) fn new(keys: &'a mut [Key], ranges: &'a mut [Range]) -> Sweep<'a>
         requires { 2 * length keys.old < length ranges.old }
         ensures starts { Starts result }
         ensures keys { result.keys.now ≡ keys.old }
@@ -73,7 +73,7 @@ impl<'a> Sweep<'a> {
         if self.opened == 0 {
             return None;
         }
-        Some(route_from(self.keys[self.opened - 1]))
+        Some(Route::from(self.keys[self.opened - 1]))
     }
 
     // The hop of the prefix opened last, none where none is open.
@@ -83,7 +83,7 @@ impl<'a> Sweep<'a> {
         self.last().map(|r| r.hop)
     }
 
-    // Whether the last of the ranges has this hop.
+    // Whether the last of the ranges has this hop. By its number, since `Some(Hop(0))` shows as none does.
     fn ends_with(&self, hop: Option<Hop>) -> bool
         ensures { result ≡ ends_with (sweep_of self.now).made (hop_number hop) }
     {
@@ -150,7 +150,7 @@ impl<'a> Sweep<'a> {
         ensures read { (self.new.read ≡ self.old.read + 1) × (length self.new.keys.now ≡ length self.old.keys.now) × HasRoom self.new }
     {
         let key = self.keys[self.read];
-        let next = route_from(key).prefix.address;
+        let next = Route::from(key).prefix.address;
         self.close_by(next);
         self.advance(next);
         self.read += 1;

@@ -1,7 +1,7 @@
 // Routes as 64-bit keys, which sort as their first parts do; ranges.
 ghost use Rattle.std.specs.Prelude.{◌≡◌};
 ghost use Rattle.route.specs.Shown.{route_of};
-ghost use Rattle.ranges.specs.Words.{key_of, route_in};
+ghost use Rattle.ranges.specs.Keys.{key_of, route_in};
 
 use route::{Hop, Length, Prefix, Route, order};
 
@@ -12,23 +12,29 @@ pub struct Range {
     pub hop: Option<Hop>,
 }
 
-// The key of a route: its address, then its length, then its hop.
-pub(crate) fn key_of(r: Route) -> u64
-    ensures { result ≡ key_of (route_of r) }
-{
-    order::key_of(r.prefix) * 65536 + (r.hop.0 as u64)
+// A route as one number. Keys come as their addresses do, then as their lengths and their hops.
+#[derive(Clone, Copy, PartialEq, Eq, PartialOrd, Ord)]
+pub(crate) struct Key(pub u64);
+
+impl From<Route> for Key {
+    ghost from_gives = { λ r k. k ≡ key_of (route_of r) };
+
+    fn from(r: Route) -> Key {
+        Key(order::key_of(r.prefix) * 65536 + (r.hop.0 as u64))
+    }
 }
 
-// The route that a key says.
-pub(crate) fn route_from(key: u64) -> Route
-    ensures { route_of result ≡ route_in key }
-{
-    let prefix = Prefix {
-        address: (key / 4194304 % 4294967296) as u32,
-        length: Length((key / 65536 % 64) as u32),
-    };
-    Route {
-        prefix,
-        hop: Hop((key % 65536) as u32),
+impl From<Key> for Route {
+    ghost from_gives = { λ k r. route_of r ≡ route_in k };
+
+    fn from(k: Key) -> Route {
+        let prefix = Prefix {
+            address: (k.0 / 4194304 % 4294967296) as u32,
+            length: Length((k.0 / 65536 % 64) as u32),
+        };
+        Route {
+            prefix,
+            hop: Hop((k.0 % 65536) as u32),
+        }
     }
 }

@@ -1,6 +1,6 @@
 -- The most writes of a plan. A chain has at most one write for each length between the prefix and the pool, and its last; a removal can
 -- have one more ahead of it. So a plan for a row with room for that many is not refused for room, whatever the table.
-use Rattle.std.proofs.Common.{◌≡◌, ℕ, zero, suc, ◌+◌, ◌-◌, ◌*◌, ◌/◌, ◌%◌, ◌<◌, ◌≤◌, Bool, true, false, cond, not, ◌&&◌, ◌||◌, eqb, ltb, leb, ◌≢◌, List, [], ◌∷◌, ◌++◌, length, get_or, refl, arith, le-ltb}
+use Rattle.std.proofs.Common.{◌≡◌, ℕ, ◌+◌, ◌-◌, ◌*◌, ◌/◌, ◌%◌, ◌<◌, ◌≤◌, Bool, true, false, cond, not, ◌&&◌, ◌||◌, eqb, ltb, leb, ◌≢◌, List, [], ◌∷◌, ◌++◌, length, get_or, refl, arith, le-ltb}
 use mathlib.Core.Option.{Option, none, some}
 use Rattle.route.specs.Limits.{max_hop}
 use Rattle.route.specs.Rule.{route, span}

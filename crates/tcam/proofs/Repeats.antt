@@ -3,7 +3,7 @@ use Rattle.std.proofs.Common.{◌≡◌, ℕ, zero, suc, ◌+◌, ◌-◌, ◌<�
 use Rattle.std.specs.Prelude.{Option as Optional, None, Some, Result, Ok, Err}
 use Rattle.std.specs.Option.{is_some as has}
 use mathlib.Core.Bool.{and-false, and-true, or_comm}
-use mathlib.Core.Option.{Option, some}
+use mathlib.Core.Option.{Option, none, some}
 use borrow.Author.Tests.{not-true, not-false}
 use Rattle.route.specs.Refusals.{fine, fault, fault_if, image_refusal}
 use Rattle.route.specs.Shown.{number, place}
@@ -12,7 +12,7 @@ use Rattle.route.specs.Loops.{before}
 use Rattle.tcam.specs.Slots.{Cell, cells, slot_fault, size_fault, is_free, length_in, same_prefix_in, repeats}
 use Rattle.tcam.specs.Plans.{is_some, or_else, remove_present, with_room}
 use Rattle.tcam.specs.Mend.{order_fault, plan_mend, other_tag_in, contradicts, repeat_fault, repeat_slot}
-use Rattle.tcam.specs.Loops.{repeats_at, FreeBetween, EntryAt, unless_refused, since_at, fails_at, RepeatWith, MendFound}
+use Rattle.tcam.specs.Loops.{repeats_at, FreeBetween, unless_refused, since_at, fails_at, RepeatWith, MendFound}
 use Rattle.tcam.specs.Shown.{cell_of, place_of, cell_at}
 use Rattle.tcam.specs.Searches.{any_between}
 use Rattle.tcam.specs.declared.image.Here.{Here}
@@ -150,7 +150,12 @@ module _ (ad ts : List ℕ) where
   kept-past i n l x (Ok p) (Err f) h e = stop h l e
   kept-past i n l x (Ok p) (Ok q) h e = past (turn h l e) x
 
--- the later copy is in the table
+-- where a slot was found, it is in the table and used
+abbrev pub EntryAt : List ℕ → List ℕ → Option ℕ → Type 0
+EntryAt ad ts none = Unit {0}
+EntryAt ad ts (some s) = (s < length ad) × (is_free (cell_at ad ts s) ≡ false)
+
+-- so it is with the later copy
 pub repeat-entry : (ad ts : List ℕ) → length ad ≡ length ts → EntryAt ad ts (repeat_slot 0 [] (cells ad ts))
 repeat-entry ad ts e = go (length ad) 0 (omega arith)
   where

@@ -7,7 +7,7 @@ use Rattle.route.proofs.Searches.{FoundFrom, from_block, from-hit}
 use Rattle.tcam.specs.Searches.{any_between, BlockOf}
 
 -- a block from place j up to place k; nothing before it has the property
-module _ (p : ℕ → Bool) {from to j k : ℕ} (l : j < to) (f : FoundFrom p (λ (i : ℕ). i) from to (min j to) false) (n : (j ≤ k) × (k ≤ to)) {found : Bool}
+module _ (p : ℕ → Bool) (j k : ℕ) {from to : ℕ} (l : j < to) (f : FoundFrom p (λ (i : ℕ). i) from to (min j to) false) (n : (j ≤ k) × (k ≤ to)) {found : Bool}
     (e : found ≡ any_between p j k) where
   block : FoundFrom p (λ (i : ℕ). i) from to k (found || false)
   block = let z : min j to ≡ j = omega arith in from_block (rw z at f) k n.0 n.1 e

@@ -9,7 +9,7 @@ use Rattle.route.specs.Loops.{before, places_from}
 use Rattle.route.specs.declared.Slot.{Slot}
 use Rattle.route.specs.declared.Refusal.{Refusal}
 use Rattle.route.specs.declared.Refusal.TheVariants.{Image}
-use Rattle.tcam.specs.Slots.{Cell, cell, cells, max_slots, slot_fault, is_free, is_upper, is_lower, length_in, keeps_s1, longer_than_nearest, misplaced, repeats}
+use Rattle.tcam.specs.Slots.{Cell, cell, slot_fault, is_free, is_upper, is_lower, length_in, keeps_s1, longer_than_nearest, misplaced, repeats}
 use Rattle.tcam.specs.Plans.{Write, write, first_slot, last_slot, of_length, rising, falling, is_some, or_else}
 use Rattle.tcam.specs.Runs.{run_of, InOrder}
 use Rattle.tcam.specs.Mend.{order_fault, contradicts, repeat_fault, repeat_slot}
@@ -122,12 +122,6 @@ abbrev pub visited : Bool → ℕ → ℕ → ℕ
 visited true M k = M - 1 - k
 visited false M k = k
 
--- two rows of a table whose slots keep S1
-pub record TableRows (W : ℕ) (ad ts : List ℕ) : Type 0 where
-  pub equal : length ad ≡ length ts
-  pub few : length ad ≤ max_slots
-  pub keeps : slot_fault W 0 (cells ad ts) ≡ fine
-
 -- farther ahead than any entry: more than the key of a prefix can be
 abbrev pub far_ahead : ℕ
 far_ahead = 1099511627776
@@ -145,11 +139,6 @@ pub record IsAheadOf (least key r : ℕ) : Type 0 where
 -- the next entry of an image, or its refusal 7, where the prefixes still to come are known by their keys
 pub record NextByKeys (W : ℕ) (cs : List Cell) (least : ℕ) (r : Next) : Type 0 where
   pub is : (from : From) → IsLeast from least → r ≡ next_unless (slot_fault W 0 cs) (entry_or_end (next_in from cs))
-
--- where a slot was found, it is in the table and used
-abbrev pub EntryAt : List ℕ → List ℕ → Option ℕ → Type 0
-EntryAt ad ts none = Unit {0}
-EntryAt ad ts (some s) = (s < length ad) × (is_free (cell_at ad ts s) ≡ false)
 
 -- a refusal, or the slot that was sought
 abbrev pub IsRepeat : Result (Optional Slot) Refusal → Verdict → Option ℕ → Type 0

@@ -73,10 +73,13 @@ fn next_in(table: &Table, least: u64) -> Result<Option<Cell>, Refusal>
         let ahead = ahead_of(least, key_of(c.prefix()));
         if ahead < nearest {
             nearest = ahead;
-            next = Some(c);
+            next = Some(Slot(i));
         }
     }
-    Ok(next)
+    match next {
+        None => Ok(None),
+        Some(s) => Ok(Some(table.cell(s))),
+    }
 }
 
 // The next entry past a prefix, or the first where there is none to be past: refusal 8, 7, 1 or 2, else

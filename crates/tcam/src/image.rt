@@ -163,7 +163,12 @@ impl<'a> Here<'a> {
         if c.length() != self.seen.nearest {
             return false;
         }
-        stands_between(self.table.addresses, self.seen.run.0, self.slot.0, c.address)
+        stands_between(
+            self.table.addresses,
+            self.seen.run.0,
+            self.slot.0,
+            c.address,
+        )
     }
 
     // Past the slot: an entry, or a free slot with those that follow it.

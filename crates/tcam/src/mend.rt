@@ -17,7 +17,7 @@ ghost use Rattle.tcam.specs.Loops.{TestedBefore, PlacedAt, repeats_at, repeat_of
 
 use crate::image::{Here, Seen};
 use crate::plan::erase;
-use crate::search::any_among;
+use crate::search::first_block;
 use crate::table::Table;
 use route::filter::Filter;
 use route::{Refusal, Slot};
@@ -50,11 +50,12 @@ impl Repeats {
         }
         let table = here.table;
         let c = here.cell;
-        let other = any_among(
+        let other = first_block(
             here.seen.run.0,
             here.slot.0,
-            &|j| { table.cell(Slot(j)).has_other_tag(c) },
-        );
+            &|j| table.cell(Slot(j)).has_other_tag(c),
+        )
+        .is_some();
         if self.later.is_some() | other {
             return Repeats {
                 refused: Some(here.slot),

@@ -16,11 +16,10 @@ returns-in_err-n c =
     let p = err_from_is_err_and c.from_residual.result c.from_residual.ensures.1 in
     rw (p.1, p.2) (built-refused c.if-main-ne-MAIN_WORDS.false (made_fault roomy roomy c.build.ensures (ap counted c.in_err-n.was)))
 
-pub split-requires : goal.split-requires
-split-requires c = (
-  made-splittable roomy roomy c.build.ensures (ap counted c.in_ok-n.was) 16 split-16 (λ i. (c.type_inv.addresses i).fits),
-  c.if-main-ne-MAIN_WORDS.false,
-)
+pub invariant_of-table-2 : goal.invariant_of-table-2
+invariant_of-table-2 c = record {
+  splittable = made-splittable roomy roomy c.build.ensures (ap counted c.in_ok-n.was) 16 split-16 (λ i. (c.type_inv.addresses i).fits);
+}
 
 pub returns : goal.returns
 returns c =

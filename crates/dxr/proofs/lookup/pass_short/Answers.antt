@@ -21,9 +21,9 @@ loop-word-preserved c =
     let n = rest-length a.part.now (a.count / 2) all in
     let word = rest-get a.part.now (a.count / 2) all k c.loop-word-test.true in
     let upper = passed-turn c.loop-word.invariant
-        (decoded-at true a.count a.part.now c.requires.2 (2 * (k + 1)) (omega (arith, n))
-        (c.short_range-in-loop-word.ensures.range ∙ ap (λ w. short_range (w / 65536)) word ∙ upper-at a.part.now (k + 1)))
-        refl c.short_range-in-loop-word.ensures.start c.next-p-in-loop-word.ensures in
+    (decoded-at true a.count a.part.now c.requires.2 (2 * (k + 1)) (omega (arith, n))
+    (c.short_range-in-loop-word.ensures.range ∙ ap (λ w. short_range (w / 65536)) word ∙ upper-at a.part.now (k + 1)))
+    refl c.short_range-in-loop-word.ensures.start c.next-p-in-loop-word.ensures in
     let e : 2 * (k + 1 + 1) ≡ 2 * (k + 1) + 1 + 1 = omega arith in
     rw e
     (passed-turn upper

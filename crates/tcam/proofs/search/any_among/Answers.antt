@@ -1,8 +1,9 @@
--- With place j more.
-use Rattle.std.proofs.Common.{rules, refl}
+-- With place from + k more.
+use Rattle.std.proofs.Common.{◌≡◌, ◌+◌, refl, arith}
 use Rattle.route.proofs.Searches.{from-turn}
 use Rattle.tcam.proofs.search.any_among.Goals as goal
 
-pub loop-j-preserved : goal.loop-j-preserved
-loop-j-preserved g c = λ p f.
-    from-turn (c.loop-j.invariant p f) c.loop-j-test.true refl (f c.loop-j.j _ (search rules) c.loop-j-test.true c.has-found.ensures)
+pub loop-k-preserved : goal.loop-k-preserved
+loop-k-preserved g c = λ p f.
+    let z : c.args.from + (c.loop-k.k + 1) ≡ c.args.from + c.loop-k.k + 1 = omega arith in
+    rw z (from-turn (c.loop-k.invariant p f) (omega arith) refl (f (c.args.from + c.loop-k.k) _ (omega arith) (omega arith) c.has-found.ensures))

@@ -7,6 +7,6 @@ use Rattle.ranges.proofs.sweep.Sweep.open_next.Goals as goal
 
 pub returns-clause-sweep : goal.returns-clause-sweep
 returns-clause-sweep c =
-    let x = ap (λ r. r.address) c.route_from-next.ensures in
+    let x = ap (λ r. r.address) c.from-next.ensures in
     let is = c.advance.ensures.sweep ∙ ap (advanced _) c.close_by.ensures.sweep in
     opening-key c.advance.new.self (sweep_of c.args.self.now) _ (omega arith) (rw x at is)

@@ -1,7 +1,7 @@
 -- The chunks before the one in which the next range starts have no words, and that one has as many as are counted.
 use Rattle.std.proofs.Common.{◌+◌, arith}
 use Rattle.dxr.proofs.Passes.{next-some, next-few, count-sound, count_turn, count_low, count-end}
-use Rattle.dxr.proofs.build.count_words.Goals as goal
+use Rattle.dxr.proofs.build.Table.count_words.Goals as goal
 
 pub main_word-requires : goal.main_word-requires
 main_word-requires c =

@@ -2,10 +2,10 @@
 use Prim.Native.Nat.{ℕ, ◌-◌}
 use lib.ListN.{length}
 use Rattle.dxr.proofs.Passes.{CountedTo}
-use Rattle.dxr.proofs.build.count_words.Given as goal
+use Rattle.dxr.proofs.build.Table.count_words.Given as goal
 
 abbrev pub invariant-loop-next : goal.invariant-loop-next
-invariant-loop-next l = (c : ℕ) × CountedTo 32 16 l.rows.starts.now l.rows.hops.now l.from l.count c
+invariant-loop-next l = (c : ℕ) × CountedTo 32 16 l.self.rows.starts.now l.self.rows.hops.now l.from l.count c
 
 abbrev pub decreases-loop-next : goal.decreases-loop-next
-decreases-loop-next l = length l.rows.starts.now - l.from
+decreases-loop-next l = length l.self.rows.starts.now - l.from
