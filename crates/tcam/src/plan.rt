@@ -94,7 +94,8 @@ fn find(table: &Table, p: Prefix) -> Option<Slot>
     None
 }
 
-// The slot that a pass over m slots comes to after k others.
+// The slot that a pass over m slots comes to after k others. A range and its reverse have two types, and
+// one loop goes either way.
 fn visit(up: bool, m: usize, k: usize) -> Slot
     requires { k < m }
     ensures { (result.0 ≡ visited up m k) × (result.0 < m) }

@@ -16,7 +16,7 @@ pub loop-i-preserved-then-is_free : goal.loop-i-preserved-then-is_free
 loop-i-preserved-then-is_free c = (
   c.loop-i.invariant.0,
   λ from b. pass-free (c.loop-i.invariant.1 from b) (search rules) c.cell-c.ensures (sym c.is_valid.ensures ∙ c.if-not-is_valid.false)
-  (sym c.is_free.ensures ∙ c.if-is_free.true),
+      (sym c.is_free.ensures ∙ c.if-is_free.true),
 )
 
 -- a used one is kept where it is nearer
@@ -26,12 +26,16 @@ loop-i-preserved c =
     let used : is_free (cell_of c.cell-c.result) ≡ false = sym c.is_free.ensures ∙ c.if-is_free.false in
     let ahead = rw (c.key_of.ensures, c.prefix.ensures.address, c.prefix.ensures.length) at c.ahead_of-ahead.ensures in
     elim c.if-ahead-nearest.branch [
-      | then-ahead-nearest w ↦
-          (rw w.next-is (omega arith), λ from b. rw (w.nearest-is, w.next-is)
-          (pass_kept (c.loop-i.invariant.1 from b) (search rules) c.cell-c.ensures valid used (search rules) (omega arith) ahead refl w.if-ahead-nearest.true))
-      | else-ahead-nearest w ↦
-          (rw w.next-is c.loop-i.invariant.0, λ from b. rw (w.nearest-is, w.next-is)
-          (pass-turn (c.loop-i.invariant.1 from b) (search rules) c.cell-c.ensures valid used (search rules) (omega arith) ahead w.if-ahead-nearest.false))
+      | then-ahead-nearest w ↦ (
+        rw w.next-is (omega arith),
+        λ from b. rw (w.nearest-is, w.next-is)
+            (pass_kept (c.loop-i.invariant.1 from b) (search rules) c.cell-c.ensures valid used (search rules) (omega arith) ahead refl w.if-ahead-nearest.true),
+      )
+      | else-ahead-nearest w ↦ (
+        rw w.next-is c.loop-i.invariant.0,
+        λ from b. rw (w.nearest-is, w.next-is)
+            (pass-turn (c.loop-i.invariant.1 from b) (search rules) c.cell-c.ensures valid used (search rules) (omega arith) ahead w.if-ahead-nearest.false),
+      )
     ]
 
 pub returns-in-None : goal.returns-in-None
