@@ -19,7 +19,7 @@ use Rattle.ranges.proofs.Rows.{ranges-length, ranges-get}
 use Rattle.dxr.specs.Dxr.{fits_short, all_short, long_entry, long_words, short_entry, short_words, encoded, words, pointer, main_word}
 use Rattle.dxr.specs.Dxr.{part_length}
 use Rattle.dxr.specs.Loops.{entry_from, entries_from, Fits, Encodable, HasRoom}
-use Rattle.dxr.specs.Shown.{is_short_form, word_of, words_of, Sound, IsMain, IsStored}
+use Rattle.dxr.specs.Shown.{is_short_form, word_of, words_of, IsMain, IsStored}
 use Rattle.dxr.specs.declared.main_word.MainWord.{MainWord}
 use Rattle.dxr.specs.declared.main_word.MainWord.TheVariants.{Direct, Pointer}
 use Rattle.dxr.specs.declared.main_word.Part.{Part}
@@ -92,7 +92,7 @@ many-main [] p l = absurd (omega arith)
 many-main (r ∷ []) p l = absurd (omega arith)
 many-main (r ∷ s ∷ rs) p l = refl
 
--- the main word of some entries: its number, how many words it points to, and that its parts have room
+-- the main word of some entries: its number, and how many words it points to
 pub main-number : (es : List Range) (at : ℕ) (m : MainWord) → IsMain es at m → word_of m ≡ main_word es at
 main-number es at (Direct h) i = i.1 ∙ sym (one-main es at i.0)
 main-number es at (Pointer p) i = rw (i.1, i.2, i.3) (sym (many-main es at i.0))
@@ -100,10 +100,6 @@ main-number es at (Pointer p) i = rw (i.1, i.2, i.3) (sym (many-main es at i.0))
 pub main-many : (es : List Range) (at : ℕ) (m : MainWord) → IsMain es at m → words_of m ≡ length (words es)
 main-many es at (Direct h) i = rw (one-words es i.0)
 main-many es at (Pointer p) i = rw (i.1, i.2, many-words es i.0, encoded_length (all_short es) es)
-
-pub main-sound : (es : List Range) (at : ℕ) (m : MainWord) → length es < 16384 → at < 65536 → IsMain es at m → Sound m
-main-sound es at (Direct h) few low i = tt
-main-sound es at (Pointer p) few low i = (omega arith, omega arith)
 
 -- entries of a chunk that are stored: nothing but a main word, or their words in a part of the row
 module _ {es : List Range} {ws : List ℕ} {used : ℕ} (h : HasRoom es ws used) where

@@ -15,7 +15,7 @@ use Rattle.route.specs.Rows.{overwritten}
 use Rattle.dxr.specs.Dxr.{chunk_size, chunk, words, main_word, all_words, main_words, table_words, table_main}
 use Rattle.dxr.specs.Splits.{Split}
 use Rattle.dxr.specs.Loops.{HasRoom, Splittable}
-use Rattle.dxr.specs.Shown.{word_of, words_of, Sound, IsMain, IsNext, IsStored}
+use Rattle.dxr.specs.Shown.{word_of, words_of, IsMain, IsNext, IsStored}
 use Rattle.dxr.specs.Chunks.{entries_in}
 use Rattle.dxr.specs.declared.build.Next.{Next}
 use Rattle.dxr.specs.declared.main_word.MainWord.{MainWord}
@@ -23,7 +23,7 @@ use Rattle.dxr.proofs.Fills.{sets_more, sets-front, filled-part}
 use Rattle.dxr.proofs.DxrTable.{fit, stands, main_length}
 use Rattle.ranges.proofs.Rows.{ranges-length}
 use Rattle.dxr.proofs.Chunks.{chunk_few}
-use Rattle.dxr.proofs.Entries.{main-number, main-many, main-sound}
+use Rattle.dxr.proofs.Entries.{main-number, main-many}
 use Rattle.dxr.proofs.Parts.{alone-words, alone-main}
 
 -- chunk c is next: range `from` starts at or before its first address, and those behind it start there or later
@@ -120,13 +120,14 @@ module _ {W S : ℕ} {ss hs : List ℕ} {from sum c : ℕ} (h : CountedTo W S ss
   pub count-skip : {d : ℕ} → c ≤ d → d ≤ 2 ^ S → Free h.reached d → CountedTo W S ss hs from sum d
   count-skip le up f = record { reached = skip-reached h.reached le f up; count = rw (skip-words h.reached le f) h.count }
 
+  -- so few that they fit a position
+  pub count_room : sum < 65536
+  count_room = rw h.count (h.reached.rows.low c)
+
   module _ {n : Next} (is : IsNext W S ss hs from n) (m : MainWord) (main : IsMain (entries_in n.chunk) sum m) where
     -- at the next chunk in which a range starts
     counted-there : CountedTo W S ss hs from sum n.number
     counted-there = count-skip (next-later h.reached is) (omega (arith, is.there)) (next-free h.reached is)
-
-    pub count-sound : Sound m
-    count-sound = main-sound _ sum m (next-few h.reached is) (rw h.count (h.reached.rows.low c)) main
 
     next : sum + words_of m ≡ length (all_words W S (ranges ss hs) (n.number + 1))
     next = rw (next_words h.reached is, length-append, main-many _ sum m main, ← counted-there.count)
@@ -205,9 +206,6 @@ module _ {W S : ℕ} {ss hs ms₀ ws₀ ms ws : List ℕ} {from used c : ℕ} (h
         }
 
     module _ (m : MainWord) {ws' : List ℕ} (put : IsStored (entries_in n.chunk) used ws m ws') where
-      pub written-sound : Sound m
-      written-sound = main-sound _ used m (next-few h.reached is) (rw here.count (h.reached.rows.low n.number)) put.main
-
       pub written-turn : WrittenTo W S ss hs ms₀ ws₀ (set (put_mid c (n.number - c) ms part) n.number (word_of m)) ws' n.last (used + words_of m) (n.number + 1)
       written-turn = record {
         reached = reached-turn h.reached is;

@@ -31,15 +31,10 @@ abbrev pub words_of : MainWord → ℕ
 words_of (Direct h) = 0
 words_of (Pointer p) = part_length (is_short_form p.form) p.count
 
--- a count of at most 14 bits and a position of at most 16
-abbrev pub Sound : MainWord → Type 0
-Sound (Direct h) = Unit {0}
-Sound (Pointer p) = (p.count < 16384) × (p.position < 65536)
-
 -- what the number w says as a main word, if it breaks no rule that it alone can break
 abbrev pub Reads : ℕ → MainWord → Type 0
 Reads w (Direct h) = (w ≤ max_hop) × (shown (Ok h) ≡ value w)
-Reads w (Pointer p) = (word_of (Pointer p) ≡ w) × (2 ≤ p.count) × Sound (Pointer p)
+Reads w (Pointer p) = (word_of (Pointer p) ≡ w) × (2 ≤ p.count)
 
 abbrev pub Says : ℕ → Option MainWord → Type 0
 Says w None = (size : ℕ) (ws : List ℕ) → chunk_fine size w ws ≡ false

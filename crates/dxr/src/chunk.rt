@@ -64,7 +64,7 @@ impl<'a> Chunk<'a> {
 
     // Its main word, where its range words have this position.
     pub(crate) fn main_word(&self, position: usize) -> MainWord
-        requires { (0 < length (entries_in self.now)) × (length (entries_in self.now) < 16384) }
+        requires { (0 < length (entries_in self.now)) × (length (entries_in self.now) < 16384) × (position < 65536) }
         ensures { IsMain (entries_in self.now) position result }
     {
         let count = self.len();

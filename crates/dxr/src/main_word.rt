@@ -4,7 +4,6 @@
 // is the form of the entries, 14 for their count, 16 for the position of their first range word.
 ghost use Rattle.std.specs.Prelude.{◌≡◌, ◌≤◌, ◌<◌};
 ghost use Rattle.dxr.specs.Dxr.{part_length};
-ghost use Rattle.dxr.specs.Shown.{is_short_form, word_of, words_of, Sound, Says};
 
 use route::{Hop, MAX_HOP};
 
@@ -22,6 +21,8 @@ pub struct Part {
     pub form: Form,
     pub count: usize,
     pub position: usize,
+    ghost few: { count < 16384 },
+    ghost low: { position < 65536 },
 }
 
 // What a main word says.
@@ -32,6 +33,8 @@ pub enum MainWord {
 }
 
 impl Form {
+    ghost use Rattle.dxr.specs.Shown.{is_short_form};
+
     // How many range words so many entries take.
     pub(crate) fn words(self, count: usize) -> usize
         requires { count < 65536 }
@@ -46,6 +49,8 @@ impl Form {
 }
 
 impl MainWord {
+    ghost use Rattle.dxr.specs.Shown.{word_of, words_of, Says};
+
     // What a word says; none where it breaks a rule that it alone can break.
     pub(crate) fn read(word: u32) -> Option<MainWord>
         ensures { Says word result }
@@ -72,7 +77,6 @@ impl MainWord {
 
     // The word that says it.
     pub(crate) fn word(self) -> u32
-        requires { Sound self }
         ensures { result ≡ word_of self }
     {
         match self {
@@ -85,7 +89,6 @@ impl MainWord {
 
     // How many range words it points to.
     pub(crate) fn words(self) -> usize
-        requires { Sound self }
         ensures { result ≡ words_of self }
     {
         match self {

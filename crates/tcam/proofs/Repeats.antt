@@ -16,6 +16,7 @@ use Rattle.tcam.specs.Loops.{repeats_at, FreeBetween, unless_refused, since_at, 
 use Rattle.tcam.specs.Shown.{cell_of, place_of, cell_at}
 use Rattle.tcam.specs.Searches.{any_between}
 use Rattle.tcam.specs.declared.image.Here.{Here}
+use Rattle.tcam.specs.Held.{slot_at}
 use Rattle.route.specs.declared.Refusal.{Refusal}
 use Rattle.route.specs.declared.Refusal.TheVariants.{Image}
 use Rattle.route.specs.declared.Slot.{Slot}
@@ -74,12 +75,12 @@ module _ (at : ℕ → Cell) (i : ℕ) where
   with-once None None e b q = rw (not-false _ (or_parts (not (repeats_at at i)) false e).0, b, q) (refl, refl)
 
 -- another tag stands before a slot exactly where it stands in the run of its length
-pub contradicts-in-run : (h : Here) (b : Bool) → (not (repeats_at (cell_at h.table.now.addresses.now h.table.now.tags.now) h.slot.0) || b) ≡ false →
-    any_between (λ (j : ℕ). other_tag_in (cell_of h.cell) (cell_at h.table.now.addresses.now h.table.now.tags.now j)) h.seen.run.0 h.slot.0
-    ≡ contradicts (cell_at h.table.now.addresses.now h.table.now.tags.now h.slot.0) (before (cell_at h.table.now.addresses.now h.table.now.tags.now) h.slot.0)
+pub contradicts-in-run : (h : Here) (b : Bool) → (not (repeats_at (slot_at h.table.now) h.slot.0) || b) ≡ false →
+    any_between (λ (j : ℕ). other_tag_in (cell_of h.cell) (slot_at h.table.now j)) h.seen.run.0 h.slot.0
+    ≡ contradicts (slot_at h.table.now h.slot.0) (before (slot_at h.table.now) h.slot.0)
 contradicts-in-run h b e =
-    let r = not-false _ (or_parts (not (repeats_at (cell_at h.table.now.addresses.now h.table.now.tags.now) h.slot.0)) b e).0 in
-    let at = cell_at h.table.now.addresses.now h.table.now.tags.now in
+    let r = not-false _ (or_parts (not (repeats_at (slot_at h.table.now) h.slot.0)) b e).0 in
+    let at = slot_at h.table.now in
     let x = at h.slot.0 in
     let bs = before at h.slot.0 in
     let u = repeats-used at h.slot.0 r in
@@ -89,10 +90,10 @@ contradicts-in-run h b e =
     ∙ rw (h.tested.run.is (length_in x), nearest r u) refl))
   where
     -- its run is not empty
-    nearest : repeats_at (cell_at h.table.now.addresses.now h.table.now.tags.now) h.slot.0 ≡ true → is_free (cell_at h.table.now.addresses.now h.table.now.tags.now h.slot.0) ≡ false
-        → eqb (length_in (cell_at h.table.now.addresses.now h.table.now.tags.now h.slot.0)) h.seen.nearest.0 ≡ true
+    nearest : repeats_at (slot_at h.table.now) h.slot.0 ≡ true → is_free (slot_at h.table.now h.slot.0) ≡ false
+        → eqb (length_in (slot_at h.table.now h.slot.0)) h.seen.nearest.0 ≡ true
     nearest r u =
-        let at = cell_at h.table.now.addresses.now h.table.now.tags.now in
+        let at = slot_at h.table.now in
         by_test (eqb (length_in (at h.slot.0)) h.seen.nearest.0)
         (λ t. t)
         (λ t. clash r (sym (run-other h.table.now.addresses.now h.table.now.tags.now h.tested.run (at h.slot.0) u t
@@ -184,6 +185,6 @@ module _ (ad ts : List ℕ) (e : length ad ≡ length ts) {o : Optional Slot} {s
   found-short =
       used-short 32 (cell_at ad ts s.0) (rw (get_or-cells ad ts s.0 e found-inside) at (slot-keeps 32 0 (cells ad ts) s.0 found-keeps)) found-entry.1
 
-  pub found-planned : (room : ℕ) → fine ≡ size_fault ad ts →
-      plan_mend 32 ad ts room ≡ with_room room fine (remove_present 32 (cells ad ts) (length_in (cell_at ad ts s.0)) s.0)
-  found-planned room z = rw (← z, ← h.0, ← found-slot, get_or-cells ad ts s.0 e found-inside) refl
+  pub found-planned : (room n : ℕ) → n ≡ length_in (cell_at ad ts s.0) → fine ≡ size_fault ad ts →
+      plan_mend 32 ad ts room ≡ with_room room fine (remove_present 32 (cells ad ts) n s.0)
+  found-planned room n l z = rw (← z, ← h.0, ← found-slot, get_or-cells ad ts s.0 e found-inside, l) refl

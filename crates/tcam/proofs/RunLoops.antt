@@ -10,6 +10,7 @@ use Rattle.tcam.specs.Searches.{any_between}
 use Rattle.tcam.specs.Loops.{is_used, SeenWith, SeenPast, RunBefore, FreeBetween, repeats_at}
 use Rattle.tcam.specs.declared.image.Seen.{Seen}
 use Rattle.tcam.specs.declared.image.Here.{Here}
+use Rattle.tcam.specs.Held.{slot_at}
 use Rattle.route.proofs.Tests.{by_test, either, or_parts}
 use Rattle.tcam.proofs.Runs.{run-addresses, repeats-in-run}
 use Rattle.tcam.proofs.Searched.{any-places}
@@ -76,17 +77,17 @@ module _ (ad ts : List ℕ) {run n i : ℕ} (b : RunBefore (cell_at ad ts) run n
 
 -- a slot of the pass repeats what it repeats in its run
 module _ (h : Here) (u : is_free (cell_of h.cell) ≡ false) where
-  in-run : repeats_in_run (cell_of h.cell) (before (cell_at h.table.now.addresses.now h.table.now.tags.now) h.slot.0)
-      ≡ repeats_at (cell_at h.table.now.addresses.now h.table.now.tags.now) h.slot.0
+  in-run : repeats_in_run (cell_of h.cell) (before (slot_at h.table.now) h.slot.0)
+      ≡ repeats_at (slot_at h.table.now) h.slot.0
   in-run =
-      let at = cell_at h.table.now.addresses.now h.table.now.tags.now in
+      let at = slot_at h.table.now in
       ap (λ (x : Cell). repeats_in_run x (before at h.slot.0)) h.holds
       ∙ sym (repeats-in-run 32 (at h.slot.0) (before at h.slot.0) (h.placed, h.tested.in_order))
 
-  pub here-other : eqb (length_in (cell_of h.cell)) h.seen.nearest.0 ≡ false → false ≡ repeats_at (cell_at h.table.now.addresses.now h.table.now.tags.now) h.slot.0
+  pub here-other : eqb (length_in (cell_of h.cell)) h.seen.nearest.0 ≡ false → false ≡ repeats_at (slot_at h.table.now) h.slot.0
   here-other e = run-other h.table.now.addresses.now h.table.now.tags.now h.tested.run (cell_of h.cell) u e ∙ in-run
 
   pub here-same : eqb (length_in (cell_of h.cell)) h.seen.nearest.0 ≡ true →
       any_between (λ (j : ℕ). eqb (slice_index h.table.now.addresses.now j) h.cell.address) h.seen.run.0 h.slot.0
-      ≡ repeats_at (cell_at h.table.now.addresses.now h.table.now.tags.now) h.slot.0
+      ≡ repeats_at (slot_at h.table.now) h.slot.0
   here-same e = run-same h.table.now.addresses.now h.table.now.tags.now h.tested.run (cell_of h.cell) u e refl ∙ in-run

@@ -12,6 +12,7 @@ pub mod Mend
 pub mod Download
 -- What the code's types show, and what only loops need.
 pub mod Shown
+pub mod Held
 pub mod Searches
 pub mod Loops
 pub mod InTurn

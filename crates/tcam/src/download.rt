@@ -10,10 +10,10 @@
 ghost use Rattle.std.specs.Prelude.{◌≡◌, ◌≤◌, length};
 ghost use Rattle.route.specs.Refusals.{fine};
 ghost use Rattle.route.specs.Shown.{verdict_of};
-ghost use Rattle.tcam.specs.Slots.{cells};
 ghost use Rattle.tcam.specs.Download.{from_fault, download};
 ghost use Rattle.tcam.specs.Shown.{from_of, next_of};
 ghost use Rattle.tcam.specs.Loops.{far_ahead, IsLeast, IsAheadOf, NextByKeys};
+ghost use Rattle.tcam.specs.Held.{cells_of};
 
 use crate::lookup::rest_check;
 use crate::slots::Cell;
@@ -58,7 +58,7 @@ fn ahead_of(least: u64, key: u64) -> u64
 // kept.
 fn next_in(table: &Table, least: u64) -> Result<Option<Cell>, Refusal>
     requires { least ≤ far_ahead }
-    ensures { NextByKeys 32 (cells table.now.addresses.now table.now.tags.now) least (next_of result) }
+    ensures { NextByKeys 32 (cells_of table.now) least (next_of result) }
 {
     let mut nearest = FAR_AHEAD;
     let mut next = None;

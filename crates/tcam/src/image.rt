@@ -16,6 +16,7 @@ ghost use Rattle.tcam.specs.Runs.{InOrder-prop};
 ghost use Rattle.tcam.specs.Shown.{cell_of, cell_at};
 ghost use Rattle.tcam.specs.Searches.{any_between};
 ghost use Rattle.tcam.specs.Loops.{misplaced_by, SeenNone, SeenWith, SeenPast, TestedBefore, PlacedAt, repeats_at, FreeBetween, FreeEnd};
+ghost use Rattle.tcam.specs.Held.{cells_of, slot_at};
 
 use crate::MAX_SLOTS;
 use crate::search::first_block;
@@ -144,17 +145,17 @@ pub struct Here<'a> {
     pub seen: Seen,
     pub noted: bool,
     ghost within: { slot.0 < length table.now.addresses.now },
-    ghost holds: { cell_of cell ≡ cell_at table.now.addresses.now table.now.tags.now slot.0 },
-    ghost tested: { TestedBefore 32 (cell_at table.now.addresses.now table.now.tags.now) seen slot.0 } by { Prim.hlevel (props, InOrder-prop) },
-    ghost placed: { PlacedAt 32 (cell_at table.now.addresses.now table.now.tags.now) slot.0 },
-    ghost not_noted: { noted ≡ false → repeats_at (cell_at table.now.addresses.now table.now.tags.now) slot.0 ≡ false },
+    ghost holds: { cell_of cell ≡ slot_at table.now slot.0 },
+    ghost tested: { TestedBefore 32 (slot_at table.now) seen slot.0 } by { Prim.hlevel (props, InOrder-prop) },
+    ghost placed: { PlacedAt 32 (slot_at table.now) slot.0 },
+    ghost not_noted: { noted ≡ false → repeats_at (slot_at table.now) slot.0 ≡ false },
 }
 
 impl<'a> Here<'a> {
     // Whether the slot repeats an earlier prefix. Where it has another length than the nearest entry, its run
     // is empty.
     pub(crate) fn repeats_earlier(&self) -> bool
-        ensures { result ≡ repeats_at (cell_at self.now.table.now.addresses.now self.now.table.now.tags.now) self.now.slot.0 }
+        ensures { result ≡ repeats_at (slot_at self.now.table.now) self.now.slot.0 }
     {
         let c = self.cell;
         if c.is_free() | !self.noted {
@@ -173,7 +174,7 @@ impl<'a> Here<'a> {
 
     // Past the slot: an entry, or a free slot with those that follow it.
     pub(crate) fn past(&self) -> Passed
-        ensures tested { TestedBefore 32 (cell_at self.now.table.now.addresses.now self.now.table.now.tags.now) result.seen result.next.0 }
+        ensures tested { TestedBefore 32 (slot_at self.now.table.now) result.seen result.next.0 }
         ensures free { FreeBetween self.now.table.now.addresses.now self.now.table.now.tags.now (self.now.slot.0 + 1) result.next.0 }
     {
         let i = self.slot.0;
@@ -194,7 +195,7 @@ impl<'a> Here<'a> {
 // Refusal 7 of an update, with a filter of so many words. It is cleared at every call.
 fn check_with<const WORDS: usize>(table: &Table) -> Result<(), Refusal>
     requires { (0 < WORDS) × (WORDS ≤ 4096) }
-    ensures { verdict_of result ≡ image_fault 32 0 [] (cells table.now.addresses.now table.now.tags.now) }
+    ensures { verdict_of result ≡ image_fault 32 0 [] (cells_of table.now) }
 {
     let mut filter = Filter::<WORDS>::of(0);
     let mut seen = Seen::none();
@@ -227,7 +228,7 @@ fn check_with<const WORDS: usize>(table: &Table) -> Result<(), Refusal>
 // frame of a short table.
 #[inline(never)]
 fn long_check(table: &Table) -> Result<(), Refusal>
-    ensures { verdict_of result ≡ image_fault 32 0 [] (cells table.now.addresses.now table.now.tags.now) }
+    ensures { verdict_of result ≡ image_fault 32 0 [] (cells_of table.now) }
 {
     if table.len() <= 1024 {
         return check_with::<512>(table);
@@ -237,7 +238,7 @@ fn long_check(table: &Table) -> Result<(), Refusal>
 
 // The same with a filter whose size goes with the table's.
 pub(crate) fn slots_check(table: &Table) -> Result<(), Refusal>
-    ensures { verdict_of result ≡ image_fault 32 0 [] (cells table.now.addresses.now table.now.tags.now) }
+    ensures { verdict_of result ≡ image_fault 32 0 [] (cells_of table.now) }
 {
     if table.len() <= 64 {
         return check_with::<16>(table);

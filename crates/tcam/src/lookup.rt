@@ -6,6 +6,7 @@ ghost use Rattle.std.specs.Prelude.{◌≡◌, ◌≤◌, length, drop};
 ghost use Rattle.route.specs.Refusals.{value, unless_fault};
 ghost use Rattle.route.specs.Shown.{verdict_of, shown};
 ghost use Rattle.tcam.specs.Slots.{cells, slot_fault, first_match, slot_lookup};
+ghost use Rattle.tcam.specs.Held.{cells_of};
 
 use crate::table::Table;
 use route::{Hop, Refusal, Slot};
@@ -25,7 +26,7 @@ pub(crate) fn rest_check(table: &Table, from: Slot) -> Result<(), Refusal>
 
 // S1 of each slot, and the first that matches.
 fn first_match(table: &Table, q: u32) -> Result<Option<Hop>, Refusal>
-    ensures { shown result ≡ unless_fault (slot_fault 32 0 (cells table.now.addresses.now table.now.tags.now)) (value (first_match 32 (cells table.now.addresses.now table.now.tags.now) q)) }
+    ensures { shown result ≡ unless_fault (slot_fault 32 0 (cells_of table.now)) (value (first_match 32 (cells_of table.now) q)) }
 {
     for i in 0..table.len() {
         let c = table.cell(Slot(i));

@@ -9,11 +9,11 @@ ghost use Rattle.std.specs.Prelude.{◌≡◌, ◌-◌, ◌<◌, ◌≤◌, fals
 ghost use Rattle.route.specs.Lists.{any};
 ghost use Rattle.route.specs.Loops.{places_from};
 ghost use Rattle.route.specs.Shown.{counted};
-ghost use Rattle.tcam.specs.Slots.{cells};
 ghost use Rattle.tcam.specs.Plans.{IsPlanned};
 ghost use Rattle.tcam.specs.Mend.{other_tag_in, plan_mend};
-ghost use Rattle.tcam.specs.Shown.{cell_of, cell_at};
+ghost use Rattle.tcam.specs.Shown.{cell_of};
 ghost use Rattle.tcam.specs.Loops.{TestedBefore, PlacedAt, repeats_at, repeat_of, RepeatWith, MendFound};
+ghost use Rattle.tcam.specs.Held.{cells_of, slot_at};
 
 use crate::image::{Here, Seen};
 use crate::plan::erase;
@@ -43,7 +43,7 @@ impl Repeats {
 
     // With a slot more.
     fn with(self, here: &Here) -> Repeats
-        ensures { RepeatWith (cell_at here.now.table.now.addresses.now here.now.table.now.tags.now) (repeat_of self) here.now.slot.0 (repeat_of result) }
+        ensures { RepeatWith (slot_at here.now.table.now) (repeat_of self) here.now.slot.0 (repeat_of result) }
     {
         if !here.repeats_earlier() | self.refused.is_some() {
             return self;
@@ -82,9 +82,11 @@ impl Repeats {
 // The later copy, if there is one, or refusal 7. S1 to S4 of every slot come before the repeats, so that a
 // slot that is refused for a repeat is kept to the end of the pass. The filter of so many words is cleared
 // at every call.
+// The loop is that of `check_with`, but one for both would be told what fails and what is kept, in a
+// contract longer than the two.
 fn mend_check<const WORDS: usize>(table: &Table) -> Result<Option<Slot>, Refusal>
     requires { (0 < WORDS) × (WORDS ≤ 4096) }
-    ensures { MendFound 32 (cells table.now.addresses.now table.now.tags.now) result }
+    ensures { MendFound 32 (cells_of table.now) result }
 {
     let mut filter = Filter::<WORDS>::of(0);
     let mut seen = Seen::none();
@@ -114,7 +116,7 @@ fn mend_check<const WORDS: usize>(table: &Table) -> Result<Option<Slot>, Refusal
 
 // The same with a filter whose size goes with the table's.
 fn later_copy(table: &Table) -> Result<Option<Slot>, Refusal>
-    ensures { MendFound 32 (cells table.now.addresses.now table.now.tags.now) result }
+    ensures { MendFound 32 (cells_of table.now) result }
 {
     if table.len() <= 64 {
         return mend_check::<16>(table);

@@ -10,10 +10,11 @@ ghost use Rattle.std.proofs.Math.ListN;
 ghost use Rattle.std.proofs.lemmas.List.Edits.{sets};
 ghost use Rattle.route.specs.Refusals.{fine};
 ghost use Rattle.route.specs.Shown.{counted};
-ghost use Rattle.tcam.specs.Slots.{max_slots, cells, is_free, slot_fault};
+ghost use Rattle.tcam.specs.Slots.{max_slots, is_free, slot_fault};
 ghost use Rattle.tcam.specs.Plans.{first_slot, of_prefix, remove_by, remove_present, set_at, with_room, write, numbers, plan_set, plan_remove, IsPlanned};
 ghost use Rattle.tcam.specs.Shown.{cell_of, place_of};
 ghost use Rattle.tcam.specs.Loops.{EdgesOf, visited, lengths_to, edge, edge_of};
+ghost use Rattle.tcam.specs.Held.{cells_of};
 
 use crate::image::slots_check;
 use crate::slots::{Cell, Group};
@@ -83,7 +84,7 @@ impl Iterator for Lengths {
 
 // The slot that holds a prefix.
 fn find(table: &Table, p: Prefix) -> Option<Slot>
-    ensures first { place_of result ≡ first_slot (of_prefix p.address p.length.0) 0 (cells table.now.addresses.now table.now.tags.now) }
+    ensures first { place_of result ≡ first_slot (of_prefix p.address p.length.0) 0 (cells_of table.now) }
     ensures inside { IfSome result (λ s. s.0 < length table.now.addresses.now) }
 {
     for i in 0..table.len() {
@@ -105,8 +106,8 @@ fn visit(up: bool, m: usize, k: usize) -> Slot
 
 // Every length's edge slot, and the pool's, in one pass: the first ones, or else the last ones.
 fn find_edges(table: &Table, up: bool) -> [Option<Slot>; GROUPS]
-    requires { slot_fault 32 0 (cells table.now.addresses.now table.now.tags.now) ≡ fine }
-    ensures { EdgesOf 32 up (cells table.now.addresses.now table.now.tags.now) result }
+    requires { slot_fault 32 0 (cells_of table.now) ≡ fine }
+    ensures { EdgesOf 32 up (cells_of table.now) result }
 {
     let m = table.len();
     let mut edges = [None; GROUPS];
@@ -134,7 +135,7 @@ struct Chain<'a> {
     table: Table<'a>,
     lengths: Lengths,
     edges: [Option<Slot>; GROUPS],
-    ghost edges_of: { EdgesOf 32 lengths.up (cells table.addresses.now table.tags.now) edges },
+    ghost edges_of: { EdgesOf 32 lengths.up (cells_of table) edges },
 }
 
 impl<'a> Chain<'a> {
@@ -142,7 +143,7 @@ impl<'a> Chain<'a> {
 
     // The chain between length n and the pool.
     fn to(table: &Table<'a>, up: bool, n: Length) -> Chain<'a>
-        requires { (slot_fault 32 0 (cells table.now.addresses.now table.now.tags.now) ≡ fine) × (n.0 ≤ 32) }
+        requires { (slot_fault 32 0 (cells_of table.now) ≡ fine) × (n.0 ≤ 32) }
         ensures table { (result.table.addresses.now ≡ table.now.addresses.now) × (result.table.tags.now ≡ table.now.tags.now) }
         ensures lengths { lengths_of result.lengths ≡ lengths_to 32 result.lengths.up n.0 }
         ensures up { result.lengths.up ≡ up }
@@ -157,7 +158,7 @@ impl<'a> Chain<'a> {
     // The edge slot of length n.
     fn edge(&self, n: Length) -> Option<Slot>
         requires { n.0 ≤ 32 }
-        ensures edge { place_of result ≡ edge_of self.now.lengths.up (cells self.now.table.addresses.now self.now.table.tags.now) n.0 }
+        ensures edge { place_of result ≡ edge_of self.now.lengths.up (cells_of self.now.table) n.0 }
         ensures inside { IfSome result (λ s. s.0 < length self.now.table.addresses.now) }
     {
         self.edges[Group::of_length(n).0]
@@ -165,7 +166,7 @@ impl<'a> Chain<'a> {
 
     // The pool's.
     fn pool(&self) -> Option<Slot>
-        ensures edge { place_of result ≡ edge self.now.lengths.up is_free (cells self.now.table.addresses.now self.now.table.tags.now) }
+        ensures edge { place_of result ≡ edge self.now.lengths.up is_free (cells_of self.now.table) }
         ensures inside { IfSome result (λ s. s.0 < length self.now.table.addresses.now) }
     {
         self.edges[Group::pool().0]
@@ -173,7 +174,7 @@ impl<'a> Chain<'a> {
 
     // How many writes the chain has: one for each of the lengths that has an edge slot, and the last.
     fn writes(&self) -> usize
-        ensures many { (at : ℕ) → (last : Cell) → result ≡ length (chain_of self.now.lengths (cells self.now.table.addresses.now self.now.table.tags.now) at (cell_of last)) }
+        ensures many { (at : ℕ) → (last : Cell) → result ≡ length (chain_of self.now.lengths (cells_of self.now.table) at (cell_of last)) }
         ensures few { result ≤ 34 }
     {
         let mut writes = 1;
@@ -186,8 +187,8 @@ impl<'a> Chain<'a> {
     // The copies of the lengths' edge entries, from write `start` of a plan on, then the last cell.
     fn put(&self, pool: Slot, last: Cell, start: usize, plan: &mut [u32])
         requires pool_in_bounds { pool.0 < length self.now.table.addresses.now }
-        requires last_in_bounds { 3 * (start + length (chain_of self.now.lengths (cells self.now.table.addresses.now self.now.table.tags.now) pool.0 (cell_of last))) ≤ length plan.old }
-        ensures { plan.new ≡ sets plan.old (3 * start) (numbers (chain_of self.now.lengths (cells self.now.table.addresses.now self.now.table.tags.now) pool.0 (cell_of last))) }
+        requires last_in_bounds { 3 * (start + length (chain_of self.now.lengths (cells_of self.now.table) pool.0 (cell_of last))) ≤ length plan.old }
+        ensures { plan.new ≡ sets plan.old (3 * start) (numbers (chain_of self.now.lengths (cells_of self.now.table) pool.0 (cell_of last))) }
     {
         let mut vacant = pool;
         let mut w = start;
@@ -204,7 +205,7 @@ impl<'a> Chain<'a> {
     // The writes of the chain, or refusal 9 where the plan has no room for them.
     fn plan(&self, pool: Slot, last: Cell, plan: &mut [u32]) -> Result<usize, Refusal>
         requires { pool.0 < length self.now.table.addresses.now }
-        ensures { IsPlanned (with_room (length plan.old) fine (chain_of self.now.lengths (cells self.now.table.addresses.now self.now.table.tags.now) pool.0 (cell_of last))) plan.old (counted result) plan.new }
+        ensures { IsPlanned (with_room (length plan.old) fine (chain_of self.now.lengths (cells_of self.now.table) pool.0 (cell_of last))) plan.old (counted result) plan.new }
     {
         let writes = self.writes();
         if plan.len() < 3 * writes {
@@ -218,7 +219,7 @@ impl<'a> Chain<'a> {
     // the same slot, and the chain from there ends with a free slot.
     fn plan_gap(&self, s: Slot, edge: Slot, plan: &mut [u32]) -> Result<usize, Refusal>
         requires { (s.0 < length self.now.table.addresses.now) × (edge.0 < length self.now.table.addresses.now) }
-        ensures { IsPlanned (with_room (length plan.old) fine (remove_by (edge_of self.now.lengths.up (cells self.now.table.addresses.now self.now.table.tags.now)) (cells self.now.table.addresses.now self.now.table.tags.now) (lengths_of self.now.lengths) s.0 edge.0)) plan.old (counted result) plan.new }
+        ensures { IsPlanned (with_room (length plan.old) fine (remove_by (edge_of self.now.lengths.up (cells_of self.now.table)) (cells_of self.now.table) (lengths_of self.now.lengths) s.0 edge.0)) plan.old (counted result) plan.new }
     {
         let free = Cell { address: 0, tag: 0 };
         if s == edge {
@@ -237,8 +238,8 @@ impl<'a> Chain<'a> {
 // The plan that sets the absent prefix of c, whose length is n: the lengths between n and the pool
 // make room.
 fn insert(table: &Table, n: Length, c: Cell, plan: &mut [u32]) -> Result<usize, Refusal>
-    requires { (slot_fault 32 0 (cells table.now.addresses.now table.now.tags.now) ≡ fine) × (n.0 ≤ 32) }
-    ensures { IsPlanned (set_at 32 (cells table.now.addresses.now table.now.tags.now) n.0 (cell_of c) (length plan.old) none) plan.old (counted result) plan.new }
+    requires { (slot_fault 32 0 (cells_of table.now) ≡ fine) × (n.0 ≤ 32) }
+    ensures { IsPlanned (set_at 32 (cells_of table.now) n.0 (cell_of c) (length plan.old) none) plan.old (counted result) plan.new }
 {
     let chain = Chain::to(table, Length(16) <= n, n);
     match chain.pool() {
@@ -264,8 +265,8 @@ fn replace(table: &Table, s: Slot, c: Cell, plan: &mut [u32]) -> Result<usize, R
 
 // The plan that removes the entry of slot s, whose length is n: the gap goes to the pool.
 pub(crate) fn erase(table: &Table, n: Length, s: Slot, plan: &mut [u32]) -> Result<usize, Refusal>
-    requires { (slot_fault 32 0 (cells table.now.addresses.now table.now.tags.now) ≡ fine) × (n.0 ≤ 32) × (s.0 < length table.now.addresses.now) }
-    ensures { IsPlanned (with_room (length plan.old) fine (remove_present 32 (cells table.now.addresses.now table.now.tags.now) n.0 s.0)) plan.old (counted result) plan.new }
+    requires { (slot_fault 32 0 (cells_of table.now) ≡ fine) × (n.0 ≤ 32) × (s.0 < length table.now.addresses.now) }
+    ensures { IsPlanned (with_room (length plan.old) fine (remove_present 32 (cells_of table.now) n.0 s.0)) plan.old (counted result) plan.new }
 {
     let chain = Chain::to(table, n < Length(16), n);
     chain.plan_gap(s, chain.edge(n).unwrap_or(s), plan)

@@ -3,7 +3,7 @@ ghost use Rattle.std.specs.Prelude.{◌≡◌, ◌<◌, ◌≤◌, length, IfOk,
 ghost use Rattle.route.specs.Refusals.{fine, fault};
 ghost use Rattle.route.specs.Shown.{number, place};
 ghost use Rattle.tcam.specs.Slots.{max_slots, size_fault};
-ghost use Rattle.tcam.specs.Shown.{cell_of, cell_at};
+ghost use Rattle.tcam.specs.Shown.{cell_of};
 
 use crate::slots::{Cell, size_check};
 use route::{Refusal, Slot};
@@ -18,6 +18,8 @@ pub struct Table<'a> {
 }
 
 impl<'a> Table<'a> {
+    ghost use Rattle.tcam.specs.Held.{slot_at};
+
     // The table that two rows are, or refusal 8: unequal rows, none, or too many slots.
     pub fn new(addresses: &'a [u32], tags: &'a [u32]) -> Result<Table<'a>, Refusal>
         ensures ok { IfOk result (λ table. (fine ≡ size_fault addresses.now tags.now) × (table.addresses.now ≡ addresses.now) × (table.tags.now ≡ tags.now)) }
@@ -37,7 +39,7 @@ impl<'a> Table<'a> {
     // What slot i holds.
     pub fn cell(&self, i: Slot) -> Cell
         requires { i.0 < length self.now.addresses.now }
-        ensures { cell_of result ≡ cell_at self.now.addresses.now self.now.tags.now i.0 }
+        ensures { cell_of result ≡ slot_at self.now i.0 }
     {
         let at = i.0;
         Cell {

@@ -2,8 +2,8 @@
 -- and the filter has their prefixes. The measure is what is left of the table.
 use Rattle.std.proofs.Common.{◌-◌, length}
 use Rattle.tcam.specs.Slots.{misplaced}
-use Rattle.tcam.specs.Shown.{cell_at}
 use Rattle.tcam.specs.Loops.{TestedBefore, repeat_of}
+use Rattle.tcam.specs.Held.{slot_at}
 use Rattle.tcam.proofs.Images.{FaultBefore, CellsNoted}
 use Rattle.tcam.proofs.Repeats.{RepeatKept}
 use Rattle.tcam.proofs.mend.mend_check.Given as goal
@@ -11,7 +11,7 @@ use Rattle.tcam.proofs.mend.mend_check.Given as goal
 abbrev pub invariant-loop-i : goal.invariant-loop-i
 invariant-loop-i g l =
     FaultBefore (misplaced 32) l.table.addresses.now l.table.tags.now l.i
-    × TestedBefore 32 (cell_at l.table.addresses.now l.table.tags.now) l.seen l.i
+    × TestedBefore 32 (slot_at l.table) l.seen l.i
     × RepeatKept l.table.addresses.now l.table.tags.now (repeat_of l.repeats) l.i
     × CellsNoted l.table.addresses.now l.table.tags.now l.filter.words l.i
 

@@ -20,5 +20,6 @@ pub returns-in-Some : goal.returns-in-Some
 returns-in-Some c =
     let t = c.in_ok-table.ensures.ok in
     planned-same
-    (rw (sym t.1, sym t.2) (found-planned _ _ c.in_ok-table.table.equal c.in-Some.is c.in_ok-later_copy.ensures (length c.args.plan.now) (rw (t.1, t.2) t.0)))
-    (rw (c.length.ensures ∙ ap length_in c.cell.ensures) at c.erase.ensures)
+    (rw (sym t.1, sym t.2) (found-planned _ _ c.in_ok-table.table.equal c.in-Some.is c.in_ok-later_copy.ensures (length c.args.plan.now) c.length.result.0
+    (c.length.ensures ∙ ap length_in c.cell.ensures) (rw (t.1, t.2) t.0)))
+    c.erase.ensures

@@ -4,9 +4,9 @@ use Rattle.std.specs.Prelude.{Option, None, Some, IfSome}
 use Rattle.std.specs.Option.{unwrap_or}
 use Rattle.route.specs.Refusals.{fine}
 use Rattle.route.specs.declared.Slot.{Slot}
-use Rattle.tcam.specs.Slots.{cells}
 use Rattle.tcam.specs.Plans.{open_after, with_room}
 use Rattle.tcam.specs.Shown.{place_of}
+use Rattle.tcam.specs.Held.{cells_of}
 use Rattle.tcam.proofs.Planned.{planned-same, lt-test, erase-chain}
 use Rattle.tcam.proofs.plan.erase.Goals as goal
 
@@ -29,7 +29,7 @@ pub returns : goal.returns
 returns c =
     let a = c.args in
     let e = c.to-chain.ensures in
-    let cs = cells a.table.now.addresses.now a.table.now.tags.now in
+    let cs = cells_of a.table.now in
     planned-same (ap (with_room (length a.plan.now) fine)
     (erase-chain 32 cs a.n.0 a.s.0 c.to-chain.result.lengths (e.up ∙ c.lt.ensures ∙ lt-test a.n.0 16) e.lengths
     (rw c.unwrap_or.ensures (or-other c.edge.result a.s ∙ ap (open_after a.s.0) (rw (e.table.0, e.table.1) at c.edge.ensures.edge)))))

@@ -3,7 +3,7 @@ use Rattle.std.proofs.Common.{sym}
 use Rattle.route.specs.Refusals.{prefix_fault}
 use Rattle.route.proofs.Accepted.{prefix-good}
 use Rattle.route.proofs.Tests.{in_turn}
-use Rattle.tcam.specs.Slots.{cells}
+use Rattle.tcam.specs.Held.{cells_of}
 use Rattle.tcam.proofs.Rows.{get_or-cells}
 use Rattle.tcam.proofs.SlotsAgree.{image_keeps_s1}
 use Rattle.tcam.proofs.Planned.{planned-same}
@@ -13,7 +13,7 @@ pub insert-requires : goal.insert-requires
 insert-requires c =
     let a = c.args in
     let t = c.in_ok-table.table in (
-      image_keeps_s1 32 0 0 _ (cells t.addresses.now t.tags.now) (sym c.in_ok-slots_check.ensures),
+      image_keeps_s1 32 0 0 _ (cells_of t) (sym c.in_ok-slots_check.ensures),
       (prefix-good 32 0 a.r.prefix.address a.r.prefix.length.0 (in_turn (prefix_fault 32 0 a.r.prefix.address a.r.prefix.length.0) _ (sym c.in_ok-entry_check.ensures)).0).0,
     )
 

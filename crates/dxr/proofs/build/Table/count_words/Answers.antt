@@ -1,15 +1,12 @@
 -- The chunks before the one in which the next range starts have no words, and that one has as many as are counted.
 use Rattle.std.proofs.Common.{◌+◌, arith}
-use Rattle.dxr.proofs.Passes.{next-some, next-few, count-sound, count_turn, count_low, count-end}
+use Rattle.dxr.proofs.Passes.{next-some, next-few, count_room, count_turn, count_low, count-end}
 use Rattle.dxr.proofs.build.Table.count_words.Goals as goal
 
 pub main_word-requires : goal.main_word-requires
 main_word-requires c =
     let r = c.loop-next.invariant.1.reached in
-    (next-some r c.in-Some.ensures, next-few r c.in-Some.ensures)
-
-pub words-count-requires : goal.words-count-requires
-words-count-requires c = count-sound c.loop-next.invariant.1 c.in-Some.ensures c.main_word.result c.main_word.ensures
+    (next-some r c.in-Some.ensures, next-few r c.in-Some.ensures, count_room c.loop-next.invariant.1)
 
 pub overflow_add-count : goal.overflow_add-count
 overflow_add-count c =

@@ -1,18 +1,10 @@
 -- Up to the chunk in which the next range starts the chunks are filled, and that one is stored.
 use Rattle.dxr.proofs.DxrTable.{split-16}
-use Rattle.dxr.proofs.Passes.{written-rest, written-room, written-sound, written-turn, written-end}
+use Rattle.dxr.proofs.Passes.{written-rest, written-room, written-turn, written-end}
 use Rattle.dxr.proofs.build.Table.write.Goals as goal
 
 pub store-stored-requires : goal.store-stored-requires
 store-stored-requires c = written-room c.loop-next.invariant c.in-Some.ensures (c.fill.ensures.after (λ y h. h)) split-16
-
-pub word-requires : goal.word-requires
-word-requires c =
-    written-sound c.loop-next.invariant c.in-Some.ensures (c.fill.ensures.after (λ y h. h)) c.store-stored.result c.store-stored.ensures
-
-pub words-used-requires : goal.words-used-requires
-words-used-requires c =
-    written-sound c.loop-next.invariant c.in-Some.ensures (c.fill.ensures.after (λ y h. h)) c.store-stored.result c.store-stored.ensures
 
 pub loop-next-preserved : goal.loop-next-preserved
 loop-next-preserved c =

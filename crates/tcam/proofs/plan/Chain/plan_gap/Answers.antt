@@ -2,23 +2,23 @@
 use Rattle.std.proofs.Common.{◌≡◌, ℕ, ◌<◌, false, eqb, List, ◌∷◌, length, ap, ◌∙◌, arith}
 use lib.Seq.{sets}
 use Rattle.route.specs.Refusals.{fine}
-use Rattle.tcam.specs.Slots.{Cell, cells, free}
+use Rattle.tcam.specs.Slots.{Cell, free}
 use Rattle.tcam.specs.Plans.{Write, write, with_room, numbers, remove_by}
-use Rattle.tcam.specs.Shown.{cell_at}
 use Rattle.tcam.specs.Loops.{edge_of}
 use Rattle.tcam.specs.InTurn.{lengths_of, chain_of}
 use Rattle.tcam.specs.declared.plan.Chain.{Chain}
+use Rattle.tcam.specs.Held.{cells_of, slot_at}
 use Rattle.tcam.proofs.Rows.{get_or-cells}
 use Rattle.tcam.proofs.Planned.{planned-same, planned-put, no_room, gap-elsewhere}
 use Rattle.tcam.proofs.plan.Chain.plan_gap.Goals as goal
 
 module _ (g : Chain) (s e : ℕ) where
   abbrev table : List Cell
-  table = cells g.table.addresses.now g.table.tags.now
+  table = cells_of g.table
 
   -- the writes where an entry moves first
   abbrev moved : List Write
-  moved = write s (cell_at g.table.addresses.now g.table.tags.now e) ∷ chain_of g.lengths table e free
+  moved = write s (slot_at g.table e) ∷ chain_of g.lengths table e free
 
   gapped : false ≡ eqb s e → e < length g.table.addresses.now → remove_by (edge_of g.lengths.up table) table (lengths_of g.lengths) s e ≡ moved
   gapped q l = gap-elsewhere (edge_of g.lengths.up table) table (lengths_of g.lengths) s e q ∙ rw (get_or-cells g.table.addresses.now g.table.tags.now e g.table.equal l)

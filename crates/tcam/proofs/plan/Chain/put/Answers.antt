@@ -1,9 +1,9 @@
 -- The length's edge entry has a slot, and there is room for its copy.
 use Rattle.std.proofs.Common.{sym, ◌∙◌, arith}
-use Rattle.tcam.specs.Slots.{cells}
 use Rattle.tcam.specs.Shown.{cell_of}
 use Rattle.tcam.specs.Loops.{edge_of}
 use Rattle.tcam.specs.InTurn.{lengths_of}
+use Rattle.tcam.specs.Held.{cells_of}
 use Rattle.tcam.proofs.Rows.{length-cells, get_or-cells}
 use Rattle.tcam.proofs.Chains.{first-length, chain-start, chain-room, chain-pass, chain-turn}
 use Rattle.tcam.proofs.plan.Chain.put.Goals as goal
@@ -12,7 +12,7 @@ pub loop-n-init : goal.loop-n-init
 loop-n-init c =
     let s = c.args.self.now in
     let t = s.table in
-    let cs = cells t.addresses.now t.tags.now in
+    let cs = cells_of t in
     rw c.into_iter-n-iterator.ensures.into_iter_gives
     (chain-start (edge_of s.lengths.up cs) cs (cell_of c.args.last) c.args.start c.args.plan.now (lengths_of s.lengths) c.args.pool.0
     (rw (length-cells t.addresses.now t.tags.now t.equal) c.requires.pool_in_bounds))

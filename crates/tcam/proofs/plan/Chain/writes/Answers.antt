@@ -1,9 +1,9 @@
 -- A length with an edge slot is one write, and there are no more of them than lengths.
 use Rattle.std.proofs.Common.{arith}
-use Rattle.tcam.specs.Slots.{cells}
 use Rattle.tcam.specs.Shown.{cell_of}
 use Rattle.tcam.specs.Loops.{edge_of}
 use Rattle.tcam.specs.InTurn.{lengths_of}
+use Rattle.tcam.specs.Held.{cells_of}
 use Rattle.tcam.proofs.Chains.{first-length, counted-start, counted-turn, counted-few, counted-end, length-lengths}
 use Rattle.tcam.proofs.plan.Chain.writes.Goals as goal
 
@@ -11,7 +11,7 @@ pub loop-n-init : goal.loop-n-init
 loop-n-init c =
     let s = c.args.self.now in
     rw c.into_iter-n-iterator.ensures.into_iter_gives
-    (counted-start (edge_of s.lengths.up (cells s.table.addresses.now s.table.tags.now)) (lengths_of s.lengths))
+    (counted-start (edge_of s.lengths.up (cells_of s.table)) (lengths_of s.lengths))
 
 pub edge-requires : goal.edge-requires
 edge-requires c = first-length c.loop-n.n-iterator c.in-Some.ensures.steps
@@ -31,7 +31,7 @@ loop-n-preserved c =
 pub returns-clause-many : goal.returns-clause-many
 returns-clause-many c at last =
     let s = c.args.self.now in
-    counted-end (rw c.in-None.ensures.steps.0 at c.loop-n.invariant) (cells s.table.addresses.now s.table.tags.now) at (cell_of last)
+    counted-end (rw c.in-None.ensures.steps.0 at c.loop-n.invariant) (cells_of s.table) at (cell_of last)
 
 pub returns-clause-few : goal.returns-clause-few
 returns-clause-few c =

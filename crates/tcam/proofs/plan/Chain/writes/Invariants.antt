@@ -1,10 +1,10 @@
 -- So many writes were counted, and the lengths that are left give the rest.
-use Rattle.tcam.specs.Slots.{cells}
 use Rattle.tcam.specs.Loops.{edge_of}
 use Rattle.tcam.specs.InTurn.{lengths_of}
+use Rattle.tcam.specs.Held.{cells_of}
 use Rattle.tcam.proofs.Chains.{CountedWrites}
 use Rattle.tcam.proofs.plan.Chain.writes.Given as goal
 
 abbrev pub invariant-loop-n : goal.invariant-loop-n
 invariant-loop-n l =
-    CountedWrites (edge_of l.self.lengths.up (cells l.self.table.addresses.now l.self.table.tags.now)) (lengths_of l.self.lengths) (lengths_of l.n-iterator) l.writes
+    CountedWrites (edge_of l.self.lengths.up (cells_of l.self.table)) (lengths_of l.self.lengths) (lengths_of l.n-iterator) l.writes
