@@ -12,7 +12,6 @@ ghost use Rattle.dxr.specs.Shown.{is_short_form, pass_first, pass_next, IsPassed
 
 use crate::MAIN_WORDS;
 use crate::main_word::{Form, MainWord};
-use ranges::one_if;
 use ranges::words::Range;
 use route::{Hop, Refusal};
 
@@ -105,7 +104,7 @@ impl Pass {
     {
         Pass {
             fine: self.fine & (self.last < start),
-            below: self.below + one_if(start <= key),
+            below: self.below + (start <= key) as u32,
             last: start,
         }
     }

@@ -19,7 +19,12 @@ use tcam::plan::{plan_remove, plan_set};
 const PLAN_CELLS: usize = 3 * MAX_WRITES;
 
 // Plans what a record asks for.
-fn plan_of(asked: Record, addresses: &[u32], tags: &[u32], plan: &mut [u32]) -> Result<usize, Refusal>
+fn plan_of(
+    asked: Record,
+    addresses: &[u32],
+    tags: &[u32],
+    plan: &mut [u32],
+) -> Result<usize, Refusal>
     ensures { IsPlanned (plan_of (rows addresses.now tags.now) (update_of asked) (length plan.old))
         plan.old (counted result) plan.new }
 {
@@ -41,7 +46,13 @@ fn update_table(asked: Record, addresses: &mut [u32], tags: &mut [u32]) -> Resul
 }
 
 // The line of an accepted update.
-fn accepted_line(nth: usize, asked: Record, writes: usize, used: usize, out: &mut [u8]) -> Result<usize, Refusal>
+fn accepted_line(
+    nth: usize,
+    asked: Record,
+    writes: usize,
+    used: usize,
+    out: &mut [u8],
+) -> Result<usize, Refusal>
     ensures { IsWritten (accepted_text nth (update_of asked) writes used) out.old (counted result) out.new }
 {
     match asked {

@@ -192,7 +192,8 @@ impl<'a> Here<'a> {
     }
 }
 
-// Refusal 7 of an update, with a filter of so many words. It is cleared at every call.
+// Refusal 7 of an update, with a filter of so many words, which is cleared at every call. A turn may pass
+// several free slots, so the loop is no `for`.
 fn check_with<const WORDS: usize>(table: &Table) -> Result<(), Refusal>
     requires { (0 < WORDS) × (WORDS ≤ 4096) }
     ensures { verdict_of result ≡ image_fault 32 0 [] (cells_of table.now) }

@@ -81,7 +81,8 @@ impl Repeats {
 
 // The later copy, if there is one, or refusal 7. S1 to S4 of every slot come before the repeats, so that a
 // slot that is refused for a repeat is kept to the end of the pass. The filter of so many words is cleared
-// at every call.
+// at every call, and a turn may pass several free slots.
+//
 // The loop is that of `check_with`, but one for both would be told what fails and what is kept, in a
 // contract longer than the two.
 fn mend_check<const WORDS: usize>(table: &Table) -> Result<Option<Slot>, Refusal>

@@ -49,7 +49,7 @@ impl Cell {
     pub fn uses(self) -> u32
         ensures { (result ≡ (if is_free (cell_of self) then 0 else 1)) × (result ≤ 1) }
     {
-        if self.is_free() { 0 } else { 1 }
+        !self.is_free() as u32
     }
 
     pub fn length(self) -> Length
@@ -120,10 +120,7 @@ impl Cell {
     pub fn has_other_tag(self, c: Cell) -> bool
         ensures { result ≡ other_tag_in (cell_of c) (cell_of self) }
     {
-        !self.is_free()
-            & (self.address == c.address)
-            & (self.length() == c.length())
-            & (self.tag != c.tag)
+        self.has_prefix(c.prefix()) & (self.tag != c.tag)
     }
 
     pub fn group(self) -> Group
