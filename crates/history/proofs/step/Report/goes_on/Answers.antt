@@ -2,7 +2,7 @@
 use borrow.Author.Tests.{le-leb}
 use Rattle.history.specs.Reports.{rows}
 use Rattle.history.proofs.Stages.{step_fits}
-use Rattle.history.proofs.Filling.{roomy, by_size}
+use Rattle.history.proofs.Filling.{roomy}
 use mathlib.Core.Path.{sym}
 use Rattle.history.proofs.step.Report.goes_on.Goals as goal
 
