@@ -120,7 +120,7 @@ impl<'a> Chunk<'a> {
         }
     }
 
-    // Stores the chunk: its range words go behind those that are used.
+    // Stores the chunk: its range words go behind those that are used, in the row that C lends.
     pub(crate) fn store(&self, words: &mut [u32], used: usize) -> MainWord
         requires { HasRoom (entries_in self.now) words.old used }
         ensures { IsStored (entries_in self.now) used words.old result words.new }

@@ -18,6 +18,8 @@ use tcam::plan::{plan_remove, plan_set};
 // The cells of a plan's row: three for each write.
 const PLAN_CELLS: usize = 3 * MAX_WRITES;
 
+// The two rows go on to the calls of tcam as they are: C lends them so.
+//
 // Plans what a record asks for.
 fn plan_of(
     asked: Record,

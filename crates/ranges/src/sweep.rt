@@ -45,6 +45,7 @@ fn ends_by(r: Route, x: u32) -> bool
     !(past == 0) & (past <= x)
 }
 
+// A method asks for room for one range more, which the last one uses up: so it is no ghost of the sweep.
 impl<'a> Sweep<'a> {
     ghost use Rattle.ranges.specs.Shown.{range_of};
     ghost use Rattle.ranges.specs.Sweeping.{sweep_of, HasRoom, Starts, SameKeys};
@@ -163,7 +164,7 @@ impl<'a> Sweep<'a> {
         requires { Starts self }
         ensures { map range_of result.now ≡ swept_ranges 32 (routes_in self.entry.keys.now) }
     {
-        while self.read < self.keys.len() {
+        for i in self.read..self.keys.len() {
             self.open_next();
         }
         self.close_by(u32::MAX);

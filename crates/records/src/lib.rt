@@ -58,6 +58,9 @@ pub fn record_at(bytes: &[u8], at: usize) -> Result<Option<(Record, usize)>, Ref
     }
 }
 
+// Each part is read at a place and answers the next one: a `Reader`, which keeps its place at a refusal, would be
+// copied at each part.
+//
 // The kind at a place.
 fn kind_at(bytes: &[u8], at: usize) -> Result<(Kind, usize), Refusal>
     ensures { reading_by kind_number result ≡ checked_at bytes.now at (λ n. fault_if (ltb 1 n) kind_refusal at) }

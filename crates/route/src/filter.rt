@@ -3,7 +3,7 @@
 // Each prefix has one word of a row, and two bits of it. To note a prefix is to set its bits; where
 // they are not all set, it was not noted. The row may hold anything at first: a set bit costs a
 // search, and never an answer.
-ghost use Rattle.std.specs.Prelude.{◌≡◌, ◌<◌, ◌≤◌, length};
+ghost use Rattle.std.specs.Prelude.{◌≡◌, ◌<◌, ◌≤◌, length, replicate};
 ghost use Rattle.route.specs.Filter.{hash_of, word_in, bits_of, Noting};
 
 use crate::Prefix;
@@ -39,9 +39,10 @@ fn bits_of(h: u64) -> u64
 
 impl<const WORDS: usize> Filter<WORDS> {
     // A filter whose words are all the same: 0 where no prefix was noted, all ones where every prefix may
-    // have been.
+    // have been. That a size is in range stands at each function over one: no type says it of a const parameter.
     pub fn of(word: u64) -> Filter<WORDS>
         requires { (0 < WORDS) × (WORDS ≤ 4096) }
+        ensures { result.words ≡ replicate WORDS word }
     {
         Filter {
             words: [word; WORDS],

@@ -85,7 +85,7 @@ impl Hop {
         }
     }
 
-    // The number of a hop, 0 where there is none.
+    // The number of a hop, 0 where there is none. No `From` can say it: neither of its types is of this crate.
     pub fn number_of(hop: Option<Hop>) -> u32
         ensures { result ≡ hop_number hop }
     {
@@ -97,7 +97,7 @@ impl Hop {
 }
 
 impl Refusal {
-    // The refusal's number in the table.
+    // The refusal's number in the table, which the C interface and the report give.
     pub fn number(self) -> u32
         ensures { result ≡ number self }
     {

@@ -57,7 +57,7 @@ fn writes_check(m: usize, plan: &[u32], k: usize) -> Result<(), Refusal>
     Ok(())
 }
 
-// The first k writes, made in order.
+// The first k writes, made in order, in the rows that C lends.
 fn make_writes(addresses: &mut [u32], tags: &mut [u32], plan: &[u32], k: usize)
     requires k_in_bounds { (k ≤ length plan.now / 3) × (length addresses.old ≡ length tags.old) }
     requires plan_value { write_fault 32 (length addresses.old) 0 (take k (writes_in plan.now)) ≡ fine }

@@ -118,7 +118,7 @@ fn find_edges(table: &Table, up: bool) -> [Option<Slot>; GROUPS]
     edges
 }
 
-// Write w of a plan.
+// Write w of a plan, which is a row that C lends.
 fn put_write(plan: &mut [u32], w: usize, s: Slot, c: Cell)
     requires { (3 * w + 3 ≤ length plan.old) × (s.0 < max_slots) }
     ensures { plan.new ≡ sets plan.old (3 * w) (s.0 ∷ c.address ∷ c.tag ∷ []) }
@@ -138,6 +138,8 @@ struct Chain<'a> {
     ghost edges_of: { EdgesOf 32 lengths.up (cells_of table) edges },
 }
 
+// That the length is at most 32 and that the table keeps S1 stand at the functions that make a chain: both were tested
+// by their callers, and a type for each would be made and taken apart in the next call.
 impl<'a> Chain<'a> {
     ghost use Rattle.tcam.specs.InTurn.{lengths_of, chain_of};
 
@@ -161,7 +163,7 @@ impl<'a> Chain<'a> {
         ensures edge { place_of result ≡ edge_of self.now.lengths.up (cells_of self.now.table) n.0 }
         ensures inside { IfSome result (λ s. s.0 < length self.now.table.addresses.now) }
     {
-        self.edges[Group::of_length(n).0]
+        self.edges[Group::from(n).0]
     }
 
     // The pool's.
@@ -169,7 +171,7 @@ impl<'a> Chain<'a> {
         ensures edge { place_of result ≡ edge self.now.lengths.up is_free (cells_of self.now.table) }
         ensures inside { IfSome result (λ s. s.0 < length self.now.table.addresses.now) }
     {
-        self.edges[Group::pool().0]
+        self.edges[Group::POOL.0]
     }
 
     // How many writes the chain has: one for each of the lengths that has an edge slot, and the last.

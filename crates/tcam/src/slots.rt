@@ -18,16 +18,14 @@ use route::{Hop, Length, Prefix, Refusal, Route};
 pub struct Group(pub usize);
 
 impl Group {
-    pub fn of_length(n: Length) -> Group
-        ensures { result.0 ≡ n.0 }
-    {
-        Group(n.0 as usize)
-    }
+    pub const POOL: Group = Group(33);
+}
 
-    pub fn pool() -> Group
-        ensures { result.0 ≡ 33 }
-    {
-        Group(33)
+impl From<Length> for Group {
+    ghost from_gives = { λ n g. g.0 ≡ n.0 };
+
+    fn from(n: Length) -> Group {
+        Group(n.0 as usize)
     }
 }
 
@@ -127,9 +125,9 @@ impl Cell {
         ensures { result.0 ≡ group_of 32 (cell_of self) }
     {
         if self.is_free() {
-            return Group::pool();
+            return Group::POOL;
         }
-        Group::of_length(self.length())
+        Group::from(self.length())
     }
 
     // Whether a lookup of q stops here: the slot is used and matches.

@@ -6,4 +6,4 @@ use Rattle.tcam.proofs.plan.Chain.pool.Goals as goal
 pub returns-clause-inside : goal.returns-clause-inside
 returns-clause-inside c =
     let s = c.args.self.now in
-    rw c.pool.ensures (inside-table s.lengths.up is_free s.table.addresses.now s.table.tags.now s.table.equal _ s.edges_of.pool)
+    inside-table s.lengths.up is_free s.table.addresses.now s.table.tags.now s.table.equal _ s.edges_of.pool
