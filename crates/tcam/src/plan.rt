@@ -196,7 +196,8 @@ impl<'a> Chain<'a> {
         let mut w = start;
         for n in self.lengths {
             if let Some(s) = self.edge(n) {
-                put_write(plan, w, vacant, self.table.cell(s));
+                let moved = self.table.cell(s);
+                put_write(plan, w, vacant, moved);
                 vacant = s;
                 w += 1;
             }

@@ -35,7 +35,7 @@ loop-n-preserved-in-Some-edge c =
     let t = c.args.self.now.table in
     let h = rw c.in-Some.ensures.steps at c.loop-n.invariant in
     chain-turn h (sym c.in-Some-edge.ensures.edge) (rw (length-cells t.addresses.now t.tags.now t.equal) c.in-Some-edge.ensures.inside)
-    (c.cell.ensures ∙ sym (get_or-cells t.addresses.now t.tags.now _ t.equal c.in-Some-edge.ensures.inside)) c.put_write.ensures
+    (c.cell-moved.ensures ∙ sym (get_or-cells t.addresses.now t.tags.now _ t.equal c.in-Some-edge.ensures.inside)) c.put_write.ensures
 
 pub loop-n-preserved : goal.loop-n-preserved
 loop-n-preserved c = let h = rw c.in-Some.ensures.steps at c.loop-n.invariant in chain-pass h (sym c.in_default.ensures.edge)
