@@ -64,7 +64,9 @@ fn next_in(table: &Table, least: u64) -> Result<Option<Cell>, Refusal>
     let mut next = None;
     for i in 0..table.len() {
         let c = table.cell(Slot(i));
-        if !c.is_valid() {
+        let valid = c.is_valid();
+        let broken = !valid;
+        if broken {
             return Err(Refusal::Image(i));
         }
         if c.is_free() {
