@@ -1,6 +1,5 @@
 -- What the pass comes to at slot i, and at the end, for whatever was asked from.
 use Rattle.std.proofs.Common.{◌≡◌, true, false, refl, sym, ◌∙◌, arith, rules}
-use borrow.Author.Tests.{not-true, not-false}
 use Rattle.tcam.specs.Slots.{is_free, keeps_s1}
 use Rattle.tcam.specs.Shown.{cell_of}
 use Rattle.tcam.proofs.DownloadPass.{pass-stop, pass-free, pass_kept, pass-turn, pass-none, pass-some}
@@ -9,21 +8,21 @@ use Rattle.tcam.proofs.download.next_in.Goals.{then-ahead-nearest, else-ahead-ne
 
 pub returns-then-broken : goal.returns-then-broken
 returns-then-broken c = record {
-  is = λ from b. pass-stop (c.loop-i.invariant.1 from b) (search rules) c.cell-c.ensures (sym c.is_valid-valid.ensures ∙ not-true _ c.if-broken.true);
+  is = λ from b. pass-stop (c.loop-i.invariant.1 from b) (search rules) c.cell-c.ensures (sym c.is_valid-valid.ensures ∙ c.if-broken.true);
 }
 
 -- a free slot is passed over
 pub loop-i-preserved-then-is_free : goal.loop-i-preserved-then-is_free
 loop-i-preserved-then-is_free c = (
   c.loop-i.invariant.0,
-  λ from b. pass-free (c.loop-i.invariant.1 from b) (search rules) c.cell-c.ensures (sym c.is_valid-valid.ensures ∙ not-false _ c.if-broken.false)
+  λ from b. pass-free (c.loop-i.invariant.1 from b) (search rules) c.cell-c.ensures (sym c.is_valid-valid.ensures ∙ c.if-broken.false)
       (sym c.is_free.ensures ∙ c.if-is_free.true),
 )
 
 -- a used one is kept where it is nearer
 pub loop-i-preserved : goal.loop-i-preserved
 loop-i-preserved c =
-    let valid : keeps_s1 32 (cell_of c.cell-c.result) ≡ true = sym c.is_valid-valid.ensures ∙ not-false _ c.if-broken.false in
+    let valid : keeps_s1 32 (cell_of c.cell-c.result) ≡ true = sym c.is_valid-valid.ensures ∙ c.if-broken.false in
     let used : is_free (cell_of c.cell-c.result) ≡ false = sym c.is_free.ensures ∙ c.if-is_free.false in
     let ahead = rw (c.key_of.ensures, c.prefix.ensures.address, c.prefix.ensures.length) at c.ahead_of-ahead.ensures in
     elim c.if-ahead-nearest.branch [
