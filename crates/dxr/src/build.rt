@@ -48,7 +48,8 @@ fn last_at(starts: &[u32], from: usize, x: u32) -> usize
 }
 
 impl<'a> Table<'a> {
-    // The chunk in which the range behind range `from` starts.
+    // The chunk in which the range behind range `from` starts. It is no iterator's `next`: who goes from chunk to
+    // chunk needs the range before each, and the last one where no chunk is left.
     fn next_chunk(&self, from: usize) -> Option<Next<'a>>
         requires within { from < length self.now.rows.starts.now }
         requires start { let ss = self.now.rows.starts.now in from + 1 < length ss → get_or ss from 0 ≤ get_or ss (from + 1) 0 / 65536 * 65536 }

@@ -20,7 +20,7 @@ fn any_among<F: Fn(usize) -> bool>(from: usize, count: usize, has: &F) -> bool
 }
 
 // The first block of places, from place `from` up to place `to`, in which one has what is sought: where the
-// block begins.
+// block begins. That `from` is not behind `to` stays a clause: a struct of the two would be made for each call.
 pub(crate) fn first_block<F: Fn(usize) -> bool>(from: usize, to: usize, has: &F) -> Option<usize>
     requires ordered { from ≤ to }
     requires callable { (j : ℕ) → from ≤ j → j < to → F.pre has.now j }
