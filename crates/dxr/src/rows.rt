@@ -15,7 +15,7 @@ impl<'a> Rows<'a> {
         self.starts.len()
     }
 
-    // The ranges from `from` up to `to`.
+    // The ranges from `from` up to `to`, where a struct of the two would be made for each call.
     pub(crate) fn part(&self, from: usize, to: usize) -> Rows<'a>
         requires { (from ≤ to) × (to ≤ length self.now.starts.now) }
         ensures starts { result.starts.now ≡ take (to - from) (drop from self.now.starts.now) }

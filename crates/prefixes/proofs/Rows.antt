@@ -9,11 +9,13 @@ use native.Mathlib.Nat.{zero-add}
 use native.Mathlib.Numerals.{add-one}
 use lib.ListN.{length, get_or, set, take, drop, length-map, length-append, get_or-map}
 use lib.Seq.{sets, sets-eq, set_comm, take-suc, length-take-le, take-length, take_at, drop_at}
+use Rattle.std.specs.Borrow.{Bor}
+use Rattle.std.specs.Fn.{Once, FnOnceReturns}
 use Rattle.route.specs.Rows.{overwritten}
 use Rattle.route.specs.declared.Route.{Route as RouteStruct}
 use Rattle.route.proofs.Parts.{sets-append}
 use Rattle.prefixes.specs.Prefixes.{address_row, length_row, hop_row}
-use Rattle.prefixes.specs.Queries.{three_rows}
+use Rattle.prefixes.specs.Queries.{three_rows, ReturnsAtRows}
 
 -- a store in front of a run
 set-sets : (l : List ℕ) (k : ℕ) (vs : List ℕ) (j a : ℕ) → j < k → set (sets l k vs) j a ≡ sets (set l j a) k vs
@@ -74,3 +76,19 @@ module _ (ys : List RouteStruct) (xs : List ℕ) where
       let one : n ≡ 3 * n - 2 * n = omega arith in
       let two : length (address_row ys ++ length_row ys) ≡ 2 * n = simp (length-append, length-map) (omega arith) in
       part made (address_row ys ++ length_row ys) (hop_row ys) rest (simp append_assoc) two (length-map ys _ ∙ one)
+
+-- what a call at the rows that stand in the row filled returns, a call at the rows of the list returns
+pub reply-of-list : {F R : Type 0} {g : Once F (Bor (List ℕ) × (Bor (List ℕ) × (Bor (List ℕ) × Unit {0}))) R} {f : F} {r : R} (ps : List RouteStruct)
+    (xs zs : List ℕ) (ads ns hs : Bor (List ℕ)) → zs ≡ overwritten (three_rows ps) xs → ads.now ≡ take (length ps) zs →
+    ns.now ≡ take (2 * length ps - length ps) (drop (length ps) zs) → hs.now ≡ take (3 * length ps - 2 * length ps) (drop (2 * length ps) zs) →
+    FnOnceReturns g f (ads, (ns, (hs, tt))) r → ReturnsAtRows g f ps r
+reply-of-list ps xs zs ads ns hs filled first second third says =
+    record {
+      addresses = ads;
+      lengths = ns;
+      hops = hs;
+      address_row = first ∙ rw filled (first-row ps xs);
+      length_row = second ∙ rw filled (second-row ps xs);
+      hop_row = third ∙ rw filled (third-row ps xs);
+      returns = says;
+    }

@@ -10,6 +10,7 @@ pub mod RangesAgree
 pub mod LastMatch
 pub mod Sweeps
 pub mod Packing
+pub mod PackedWords
 pub mod Rooms
 -- The loops, by family: the lookup, filling a row, the sweep.
 pub mod Scans

@@ -5,7 +5,7 @@ use mathlib.Core.List.Memᴰ
 use Rattle.std.specs.List.{Contains}
 use Rattle.std.specs.List.Sorted.{IsPermutation, IsSortedByKey, IsNonDecreasingBy}
 use Rattle.std.specs.Ordering.{nat_cmp}
-use Rattle.std.proofs.lemmas.List.Sorted.{IsPermutation-sym, Contains-permutation, IsNonDecreasingBy-drop, IsNonDecreasingBy-from_sort}
+use Rattle.std.proofs.lemmas.List.Sorted.{IsPermutation-sym, length_permutation, Contains-permutation, IsNonDecreasingBy-drop, IsNonDecreasingBy-from_sort}
 use Rattle.route.specs.Rule.{Route}
 use Rattle.route.specs.PrefixOrder
 use Rattle.route.specs.Entries.{routes_of}
@@ -26,6 +26,7 @@ use Rattle.ranges.proofs.LastMatch.{InOrder, AllInOrder}
 use Rattle.ranges.proofs.Boundaries.{Placed}
 use Rattle.ranges.proofs.RangesAgree.{ranges_same}
 use Rattle.ranges.proofs.Sweeps.{sweep_makes}
+use Rattle.ranges.proofs.Fills.{keys_length}
 
 -- the parts of a key
 key_address : (a n h : ℕ) → a < 4294967296 → n < 64 → h < 65536 → ((a * 64 + n) * 65536 + h) / 4194304 % 4294967296 ≡ a
@@ -121,6 +122,11 @@ keys_make rs ok placed ks perm up =
     fits r m =
         let v = ok.valid r m in
         record { address = placed r m; length = omega (arith, v.short); hop = omega (arith, v.small) }
+
+-- the keys of a list, sorted, are as many as its entries
+pub keys-many : (l : InRows) → length l.addresses.now ≡ length (routes_of l) → {packed keys : List Key} → packed ≡ keys_of (routes_of l) →
+    IsPermutation packed keys → length keys ≡ length l.addresses.now
+keys-many l e {packed} {keys} is perm = length_permutation packed keys perm ∙ ap length is ∙ keys_length (routes_of l) ∙ sym e
 
 -- the keys of a list that has been tested, sorted: what the sweep makes of them
 pub list-made : {l : InRows} → Accepted l → {packed sorted keys : List Key} → packed ≡ keys_of (routes_of l) →

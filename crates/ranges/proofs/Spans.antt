@@ -1,11 +1,17 @@
 -- Where a prefix ends; one that neither starts nor ends between two addresses matches both or neither.
-use Rattle.std.proofs.Common.{◌≡◌, ℕ, ◌+◌, ◌^◌, ◌<◌, ◌≤◌, Bool, true, false, ltb, leb, sym, refl, mod-eq_of_lt, arith}
-use native.Mathlib.Nat.{mod_self}
+use Rattle.std.proofs.Common.{◌≡◌, ℕ, ◌+◌, ◌-◌, ◌%◌, ◌^◌, ◌<◌, ◌≤◌, Bool, true, false, ltb, leb, sym, refl, ap, ◌∙◌, mod-eq_of_lt, arith}
+use native.Mathlib.Nat.{mod_self, mod-add-mod}
 use Rattle.route.specs.Rule.{Route, span, matches}
 use Rattle.route.specs.RowsOfSet.{Valid}
 use Rattle.route.proofs.Tests.{orders, by_test, is_false, clash}
 use Rattle.route.proofs.Spans.{matches-span, end-within}
 use Rattle.ranges.specs.Ranges.{past_end}
+
+-- one past the last of s addresses from a on, by two sums that wrap
+pub past-last : (W a n s : ℕ) → s ≡ span W n → 0 < s → ((a + (s - 1)) % 2 ^ W + 1) % 2 ^ W ≡ (a + span W n) % 2 ^ W
+past-last W a n s e pos =
+    let whole : a + (s - 1) + 1 ≡ a + span W n = omega arith in
+    mod-add-mod (a + (s - 1)) (2 ^ W) 1 ∙ ap (λ x. x % 2 ^ W) whole
 
 -- an end that is not 0 is one past the last address
 pub end_past : (W : ℕ) (r : Route) → Valid W r → r.address < 2 ^ W → 0 < past_end W r → past_end W r ≡ r.address + span W r.length

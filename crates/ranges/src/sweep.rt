@@ -16,6 +16,9 @@ use std::num::wrapping_add_u32;
 
 // A sweep over keys: how many are read, how many of these prefixes are open, the address up to which
 // ranges are made, and how many there are.
+//
+// These numbers stand beside the rows: a vector in fixed memory has its size in its type, so that the sweep would be made once for
+// each size of the scratch, and the open keys take the front of the row that they are read from.
 #[derive(Drop)]
 pub(crate) struct Sweep<'a> {
     keys: &'a mut [Key],

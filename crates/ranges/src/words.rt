@@ -12,7 +12,7 @@ pub struct Range {
     pub hop: Option<Hop>,
 }
 
-// A route as one number. Keys come as their addresses do, then as their lengths and their hops.
+// A route as one number, so that two keys are compared at once. Keys come as their addresses do, then as their lengths and their hops.
 #[derive(Clone, Copy, PartialEq, Eq, PartialOrd, Ord)]
 pub(crate) struct Key(pub u64);
 

@@ -55,7 +55,7 @@ fn ahead_of(least: u64, key: u64) -> u64
 }
 
 // S1 of each slot, and of the entries whose keys are not below `least` the nearest, whose slot is
-// kept.
+// kept. `nearest` begins farther ahead than any entry can be, so that one comparison does for both tests of a slot.
 fn next_in(table: &Table, least: u64) -> Result<Option<Cell>, Refusal>
     requires { least ≤ far_ahead }
     ensures { NextByKeys 32 (cells_of table.now) least (next_of result) }

@@ -102,7 +102,7 @@ fn stands_between(addresses: &[u32], from: usize, to: usize, address: u32) -> bo
     first_block(from, to, &|j| addresses[j] == address).is_some()
 }
 
-// The first used slot from slot `from` on, or the number of slots, slot by slot.
+// The first used slot from slot `from` on, or the number of slots, slot by slot, by a loop as in `find` of plan.rt.
 fn first_used(table: &Table, from: usize) -> Slot
     requires { from ≤ length table.now.addresses.now }
     ensures { FreeEnd table.now.addresses.now table.now.tags.now from result.0 }
@@ -248,7 +248,7 @@ pub(crate) fn slots_check(table: &Table) -> Result<(), Refusal>
 }
 
 // How many slots from slot `from` up to slot `to` are used. With a count of 32 bits several slots are
-// counted at once.
+// counted at once. The rows may differ in length, as those of the call may, so they are no `Table`.
 fn used_between(addresses: &[u32], tags: &[u32], from: usize, to: usize) -> u32
     requires { (to ≤ length addresses.now) × (to ≤ length tags.now) × (from ≤ to) × (to ≤ from + max_slots) }
     ensures { (result ≡ used_in (places_from (cell_at addresses.now tags.now) from (to - from))) × (result ≤ to - from) }

@@ -115,7 +115,8 @@ fn mend_check<const WORDS: usize>(table: &Table) -> Result<Option<Slot>, Refusal
     repeats.result()
 }
 
-// The same with a filter whose size goes with the table's.
+// The same with a filter whose size goes with the table's. That is chosen here as for `check_with`, since no function takes one that has a
+// const parameter.
 fn later_copy(table: &Table) -> Result<Option<Slot>, Refusal>
     ensures { MendFound 32 (cells_of table.now) result }
 {

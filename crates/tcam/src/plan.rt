@@ -82,7 +82,7 @@ impl Iterator for Lengths {
     }
 }
 
-// The slot that holds a prefix.
+// The slot that holds a prefix. It is no `position`: by that one goal stays open.
 fn find(table: &Table, p: Prefix) -> Option<Slot>
     ensures first { place_of result ≡ first_slot (of_prefix p.address p.length.0) 0 (cells_of table.now) }
     ensures inside { IfSome result (λ s. s.0 < length table.now.addresses.now) }

@@ -13,7 +13,7 @@ use route::rule::{covers, span_of};
 use route::{Hop, Length, Prefix, Refusal, Route};
 
 // The slots of one group: the entries of one length, or the pool's free slots. A row of edge slots
-// has a number for each group, the lengths 0 to 32 and then the pool.
+// has a number for each group, the lengths 0 to 32 and then the pool; an enum would be made this number at each use.
 #[derive(Clone, Copy)]
 pub struct Group(pub usize);
 

@@ -8,7 +8,7 @@ ghost use Rattle.tcam.specs.Shown.{cell_of};
 use crate::slots::{Cell, size_check};
 use route::{Refusal, Slot};
 
-// The addresses and the tags of a table's slots.
+// The addresses and the tags of a table's slots. The public calls take the two rows, as C lends them.
 #[derive(Clone, Copy)]
 pub struct Table<'a> {
     pub addresses: &'a [u32],

@@ -1,16 +1,7 @@
 -- The rows that `copy_rows` wrote are those of the list.
-use Rattle.prefixes.proofs.Rows.{first-row, second-row, third-row}
+use mathlib.Core.Path.{refl}
+use Rattle.prefixes.proofs.Rows.{reply-of-list}
 use Rattle.prefixes.proofs.query_rows.Goals as goal
 
 pub returns : goal.returns
-returns g c =
-    let ps = c.args.list.now in
-    record {
-      addresses = _;
-      lengths = _;
-      hops = _;
-      address_row = rw c.copy_rows.ensures (first-row ps _);
-      length_row = rw c.copy_rows.ensures (second-row ps _);
-      hop_row = rw c.copy_rows.ensures (third-row ps _);
-      returns = c.ask.ensures;
-    }
+returns g c = reply-of-list c.args.list.now _ _ _ _ _ c.copy_rows.ensures refl refl refl c.ask.ensures
