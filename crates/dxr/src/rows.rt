@@ -1,4 +1,5 @@
-// Ranges in two rows of one length: where each starts, and the number of its hop.
+// Ranges in two rows of one length: where each starts, and the number of its hop. No one struct is for these, a lent range
+// table and a table of slots: their bounds and their refusals differ, and they share no method but `len`.
 ghost use Rattle.std.specs.Prelude.{◌≡◌, ◌-◌, ◌≤◌, length, take, drop};
 
 #[derive(Clone, Copy)]

@@ -15,7 +15,7 @@ use Rattle.route.proofs.PrefixOrder.{by_key}
 use Rattle.route.proofs.LongestMatch.{SameSet}
 use Rattle.route.proofs.RouteSet.{RouteSet}
 use Rattle.route.proofs.Accepted.{accepted_set}
-use Rattle.route.proofs.Entries.{routes-addresses}
+use Rattle.route.proofs.Entries.{routes-addresses, routes-length}
 use Rattle.route.proofs.Members.{each_at}
 use Rattle.ranges.specs.Ranges.{Range, ranges_of}
 use Rattle.ranges.specs.Keys.{key_of, route_in, keys_of, routes_in}
@@ -123,10 +123,10 @@ keys_make rs ok placed ks perm up =
         let v = ok.valid r m in
         record { address = placed r m; length = omega (arith, v.short); hop = omega (arith, v.small) }
 
--- the keys of a list, sorted, are as many as its entries
-pub keys-many : (l : InRows) → length l.addresses.now ≡ length (routes_of l) → {packed keys : List Key} → packed ≡ keys_of (routes_of l) →
-    IsPermutation packed keys → length keys ≡ length l.addresses.now
-keys-many l e {packed} {keys} is perm = length_permutation packed keys perm ∙ ap length is ∙ keys_length (routes_of l) ∙ sym e
+-- the keys of a list, in any order, are as many as its entries
+pub keys-many : (l : InRows) → {packed keys : List Key} → packed ≡ keys_of (routes_of l) → IsPermutation packed keys → length keys ≡ length l.addresses.now
+keys-many l {packed} {keys} is perm =
+    length_permutation packed keys perm ∙ ap length is ∙ keys_length (routes_of l) ∙ routes-length l.addresses.now l.lengths.now l.hops.now l.equal
 
 -- the keys of a list that has been tested, sorted: what the sweep makes of them
 pub list-made : {l : InRows} → Accepted l → {packed sorted keys : List Key} → packed ≡ keys_of (routes_of l) →
