@@ -6,7 +6,7 @@
 ghost use Rattle.std.specs.Prelude.{◌≡◌, ◌<◌, ◌≤◌, length, replicate};
 ghost use Rattle.route.specs.Filter.{hash_of, word_in, bits_of, Noting};
 
-use crate::Prefix;
+use crate::{Length, Prefix};
 
 // A filter of so many words.
 #[derive(Drop)]
@@ -37,6 +37,19 @@ fn bits_of(h: u64) -> u64
     (1 << ((h >> 32) % 64)) | (1 << ((h >> 38) % 64))
 }
 
+// Notes a prefix in a row of one word or more; whether it may have been noted before.
+pub fn note(filter: &mut [u64], address: u32, n: Length) -> bool
+    requires { 0 < length filter.old }
+    ensures { Noting filter.old address n.0 result filter.new }
+{
+    let h = hash(Prefix { address, length: n });
+    let w = word_in(filter.len(), h);
+    let before = filter[w];
+    let after = before | bits_of(h);
+    filter[w] = after;
+    after == before
+}
+
 impl<const WORDS: usize> Filter<WORDS> {
     // A filter whose words are all the same: 0 where no prefix was noted, all ones where every prefix may
     // have been. That a size is in range stands at each function over one: no type says it of a const parameter.
@@ -54,11 +67,6 @@ impl<const WORDS: usize> Filter<WORDS> {
         ensures noting { Noting self.old.words p.address p.length.0 result self.new.words }
         ensures words_len_unchanged { length self.new.words ≡ length self.old.words }
     {
-        let h = hash(p);
-        let w = word_in(WORDS, h);
-        let before = self.words[w];
-        let after = before | bits_of(h);
-        self.words[w] = after;
-        after == before
+        note(&mut self.words, p.address, p.length)
     }
 }
