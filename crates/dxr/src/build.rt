@@ -13,9 +13,9 @@ ghost use Rattle.dxr.specs.Builds.{IsBuilt};
 ghost use Rattle.dxr.specs.Loops.{LastAt, Splittable, IsSplit};
 ghost use Rattle.dxr.specs.Shown.{NextIs};
 
-use crate::MAIN_WORDS;
 use crate::chunk::Chunk;
 use crate::rows::Rows;
+use crate::{Built, MAIN_WORDS};
 use ranges::MAX_RANGES;
 use route::Refusal;
 
@@ -132,7 +132,7 @@ pub fn build(
     hops: &[u32],
     main: &mut [u32],
     words: &mut [u32],
-) -> Result<usize, Refusal>
+) -> Built
     ensures { IsBuilt 32 16 addresses.now lengths.now hops.now main.old words.old (counted result) main.new words.new }
 {
     if main.len() != MAIN_WORDS {

@@ -11,5 +11,10 @@ pub mod lookup;
 mod main_word;
 mod rows;
 
+use route::Refusal;
+
 // The words of a main table: one for each chunk.
 pub const MAIN_WORDS: usize = 65536;
+
+// What a build answers: how many range words there are, or the refusal.
+pub type Built = Result<usize, Refusal>;

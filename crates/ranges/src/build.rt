@@ -13,6 +13,7 @@ ghost use Rattle.ranges.specs.Builds.{IsBuilt};
 ghost use Rattle.ranges.specs.Keys.{keys_of};
 ghost use Rattle.ranges.specs.Loops.{Accepted};
 
+use crate::Built;
 use crate::sweep::Sweep;
 use crate::words::{Key, Range};
 use route::list::List;
@@ -98,7 +99,7 @@ pub fn build(
     hops: &[u32],
     starts: &mut [u32],
     range_hops: &mut [u32],
-) -> Result<usize, Refusal>
+) -> Built
     ensures { IsBuilt 32 addresses.now lengths.now hops.now starts.old range_hops.old (counted result) starts.new range_hops.new }
 {
     let list = List::new(addresses, lengths, hops)?;

@@ -9,6 +9,7 @@ ghost use Rattle.tcam.specs.Applies.{is_wrong, writes_in, write_fault, stored, I
 ghost use Rattle.tcam.specs.Shown.{write_of};
 ghost use Rattle.tcam.specs.Loops.{write_at};
 
+use crate::Applied;
 use crate::slots::{Cell, size_check};
 use route::{Refusal, Slot};
 
@@ -72,12 +73,7 @@ fn make_writes(addresses: &mut [u32], tags: &mut [u32], plan: &[u32], k: usize)
 }
 
 // Applies the first k writes of a plan: k, or refusal 8 or 10 with both rows as they were.
-pub fn apply(
-    addresses: &mut [u32],
-    tags: &mut [u32],
-    plan: &[u32],
-    k: usize,
-) -> Result<usize, Refusal>
+pub fn apply(addresses: &mut [u32], tags: &mut [u32], plan: &[u32], k: usize) -> Applied
     ensures { IsApplied 32 addresses.old tags.old plan.now k (counted result) addresses.new tags.new }
 {
     let m = addresses.len();

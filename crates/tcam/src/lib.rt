@@ -16,9 +16,17 @@ mod search;
 pub mod slots;
 pub mod table;
 
+use route::Refusal;
+
 // The most slots of a table.
 pub const MAX_SLOTS: usize = 4096;
 
 // The most writes of a plan: a removal moves an entry of its own length and one of each length
 // between it and the pool, and clears a slot.
 pub const MAX_WRITES: usize = 18;
+
+// What a plan answers: how many writes it has, or the refusal.
+pub type Planned = Result<usize, Refusal>;
+
+// What an apply answers: how many writes were made, or the refusal.
+pub type Applied = Result<usize, Refusal>;

@@ -15,6 +15,7 @@ ghost use Rattle.tcam.specs.Shown.{cell_of};
 ghost use Rattle.tcam.specs.Loops.{TestedBefore, PlacedAt, repeats_at, repeat_of, RepeatWith, MendFound};
 ghost use Rattle.tcam.specs.Held.{cells_of, slot_at};
 
+use crate::Planned;
 use crate::image::{Here, Seen};
 use crate::plan::erase;
 use crate::search::first_block;
@@ -128,7 +129,7 @@ fn later_copy(table: &Table) -> Result<Option<Slot>, Refusal>
 
 // Plans a mend: the writes, or refusal 8, 7 or 9, in this order. Where there is no later copy, there is
 // nothing to write.
-pub fn plan_mend(addresses: &[u32], tags: &[u32], plan: &mut [u32]) -> Result<usize, Refusal>
+pub fn plan_mend(addresses: &[u32], tags: &[u32], plan: &mut [u32]) -> Planned
     ensures { IsPlanned (plan_mend 32 addresses.now tags.now (length plan.old)) plan.old (counted result) plan.new }
 {
     let table = Table::new(addresses, tags)?;

@@ -16,6 +16,7 @@ ghost use Rattle.tcam.specs.Shown.{cell_of, place_of};
 ghost use Rattle.tcam.specs.Loops.{EdgesOf, visited, lengths_to, edge, edge_of};
 ghost use Rattle.tcam.specs.Held.{cells_of};
 
+use crate::Planned;
 use crate::image::slots_check;
 use crate::slots::{Cell, Group};
 use crate::table::Table;
@@ -276,12 +277,7 @@ pub(crate) fn erase(table: &Table, n: Length, s: Slot, plan: &mut [u32]) -> Resu
 }
 
 // Plans a set: the writes, or refusal 8, 7, 1, 2, 3, 5 or 9, in this order.
-pub fn plan_set(
-    addresses: &[u32],
-    tags: &[u32],
-    r: Route,
-    plan: &mut [u32],
-) -> Result<usize, Refusal>
+pub fn plan_set(addresses: &[u32], tags: &[u32], r: Route, plan: &mut [u32]) -> Planned
     ensures { IsPlanned (plan_set 32 addresses.now tags.now r.prefix.address r.prefix.length.0 r.hop.0 (ListN.length plan.old)) plan.old (counted result) plan.new }
 {
     let table = Table::new(addresses, tags)?;
@@ -299,12 +295,7 @@ pub fn plan_set(
 }
 
 // Plans a removal: the writes, or refusal 8, 7, 1, 2, 6 or 9, in this order.
-pub fn plan_remove(
-    addresses: &[u32],
-    tags: &[u32],
-    p: Prefix,
-    plan: &mut [u32],
-) -> Result<usize, Refusal>
+pub fn plan_remove(addresses: &[u32], tags: &[u32], p: Prefix, plan: &mut [u32]) -> Planned
     ensures { IsPlanned (plan_remove 32 addresses.now tags.now p.address p.length.0 (ListN.length plan.old)) plan.old (counted result) plan.new }
 {
     let table = Table::new(addresses, tags)?;
