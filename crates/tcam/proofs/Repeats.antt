@@ -166,6 +166,12 @@ repeat-entry ad ts e = go (length ad) 0 (omega arith)
         (λ t. rw t (omega arith, repeats-used (cell_at ad ts) i t))
         (λ t. rw (t, add-one) (rw add-one at (go k (i + 1) (omega arith)))))
 
+-- and its length is at most W where slots keep S1
+pub entry-short : (W : ℕ) (ad ts : List ℕ) → length ad ≡ length ts → slot_fault W 0 (cells ad ts) ≡ fine → (s : ℕ) → EntryAt ad ts (some s) →
+    length_in (cell_at ad ts s) ≤ W
+entry-short W ad ts q k s e =
+    used-short W (cell_at ad ts s) (rw (get_or-cells ad ts s q e.0) at (slot-keeps W 0 (cells ad ts) s k)) e.1
+
 -- the later copy in slot s, as it was found in a table of a right size: it is in the table, its length is at most 32, the slots keep S1, and the
 -- writes of a mend are those of its removal
 module _ (ad ts : List ℕ) (e : length ad ≡ length ts) {o : Optional Slot} {s : Slot} (t : o ≡ Some s) (h : MendFound 32 (cells ad ts) (Ok o)) where
@@ -182,8 +188,7 @@ module _ (ad ts : List ℕ) (e : length ad ≡ length ts) {o : Optional Slot} {s
   found-keeps = order_keeps_s1 32 0 0 [] (cells ad ts) (in_turn (order_fault 32 0 [] (cells ad ts)) _ (sym h.0)).0
 
   pub found-short : length_in (cell_at ad ts s.0) ≤ 32
-  found-short =
-      used-short 32 (cell_at ad ts s.0) (rw (get_or-cells ad ts s.0 e found-inside) at (slot-keeps 32 0 (cells ad ts) s.0 found-keeps)) found-entry.1
+  found-short = entry-short 32 ad ts e found-keeps s.0 found-entry
 
   pub found-planned : (room n : ℕ) → n ≡ length_in (cell_at ad ts s.0) → fine ≡ size_fault ad ts →
       plan_mend 32 ad ts room ≡ with_room room fine (remove_present 32 (cells ad ts) n s.0)
