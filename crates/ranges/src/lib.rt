@@ -3,7 +3,7 @@
 
 pub mod build;
 pub mod lookup;
-mod sweep;
+pub mod sweep;
 pub mod words;
 
 // The most ranges of a table: two for each entry of a list, and one.
