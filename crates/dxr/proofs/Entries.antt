@@ -8,7 +8,7 @@ use borrow.Rule.Slice.PartMut.{put_mid}
 use native.Mathlib.Numerals.{add-one}
 use lib.ListN.{length, get_or, take, drop, length-drop, length-map, get_or-map, get_or-eq_default}
 use lib.Dec.{eqb, leb}
-use lib.Seq.{drop-cons, length-take-le}
+use lib.Seq.{drop-cons, length-take-le, sets}
 use Rattle.std.specs.Prelude.{Option}
 use Rattle.route.specs.Limits.{max_hop}
 use Rattle.route.specs.declared.Hop.{Hop}
@@ -23,6 +23,7 @@ use Rattle.dxr.specs.Shown.{is_short_form, word_of, words_of, IsMain, IsStored}
 use Rattle.dxr.specs.declared.main_word.MainWord.{MainWord}
 use Rattle.dxr.specs.declared.main_word.MainWord.TheVariants.{Direct, Pointer}
 use Rattle.dxr.specs.declared.main_word.Part.{Part}
+use Rattle.dxr.specs.declared.chunk.Stored.{Stored}
 use Rattle.dxr.proofs.ChunkWords.{encoded_length}
 use Rattle.dxr.proofs.Fills.{put-sets}
 
@@ -103,8 +104,14 @@ main-many es at (Pointer p) i = rw (i.1, i.2, many-words es i.0, encoded_length 
 
 -- entries of a chunk that are stored: nothing but a main word, or their words in a part of the row
 module _ {es : List Range} {ws : List ℕ} {used : ℕ} (h : HasRoom es ws used) where
-  pub stored-one : (hop : Option Hop) → IsMain es used (Direct hop) → IsStored es used ws (Direct hop) ws
-  stored-one hop i = record { main = i; row = rw (one-words es i.0) }
+  -- a main word's number, and so many words more that are used, are what is stored
+  module _ (m : MainWord) (i : IsMain es used m) {s : Stored} (word : s.word ≡ word_of m) (next : s.used ≡ used + words_of m) where
+    stored-row : {ws' : List ℕ} → ws' ≡ sets ws used (words es) → IsStored es used ws s ws'
+    stored-row row = record { main = word ∙ main-number es used m i; next = next ∙ ap (λ k. used + k) (main-many es used m i); row = row }
+
+  pub stored-one : (hop : Option Hop) → IsMain es used (Direct hop) → {s : Stored} →
+      s.word ≡ word_of (Direct hop) → s.used ≡ used + words_of (Direct hop) → IsStored es used ws s ws
+  stored-one hop i word next = stored-row (Direct hop) i word next (rw (one-words es i.0))
 
   module _ (p : Part) (i : IsMain es used (Pointer p)) where
     some : words es ≡ encoded (is_short_form p.form) es
@@ -132,9 +139,10 @@ module _ {es : List Range} {ws : List ℕ} {used : ℕ} (h : HasRoom es ws used)
           ∙ ap (part_length (is_short_form p.form)) i.2
 
       -- put back, they are the words written behind those that are used
-      pub stored-many : {part : List ℕ} → part ≡ encoded (is_short_form p.form) es →
-          IsStored es used ws (Pointer p) (put_mid used (used + n - used) ws part)
-      stored-many put = record { main = i; row = rw (put, some, part-many) (put-sets ws (encoded (is_short_form p.form) es) used n size stored-end) }
+      pub stored-many : {part : List ℕ} → part ≡ encoded (is_short_form p.form) es → {s : Stored} → s.word ≡ word_of (Pointer p) →
+          s.used ≡ used + words_of (Pointer p) → IsStored es used ws s (put_mid used (used + n - used) ws part)
+      stored-many put word next =
+          stored-row (Pointer p) i word next (rw (put, some, part-many) (put-sets ws (encoded (is_short_form p.form) es) used n size stored-end))
 
 -- where all entries before entry i are short, it and those behind it decide
 pub short-turn : (es : List Range) (i : ℕ) → i < length es → all_short (drop i es) ≡ all_short es → {r : Range} → r ≡ get_or es i (range 0 0) →

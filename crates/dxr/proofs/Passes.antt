@@ -15,15 +15,16 @@ use Rattle.route.specs.Rows.{overwritten}
 use Rattle.dxr.specs.Dxr.{chunk_size, chunk, words, main_word, all_words, main_words, table_words, table_main}
 use Rattle.dxr.specs.Splits.{Split}
 use Rattle.dxr.specs.Loops.{HasRoom, Splittable}
-use Rattle.dxr.specs.Shown.{word_of, words_of, IsMain, IsNext, IsStored}
+use Rattle.dxr.specs.Shown.{words_of, IsMain, IsNext, IsStored}
 use Rattle.dxr.specs.Chunks.{entries_in}
 use Rattle.dxr.specs.declared.build.Next.{Next}
+use Rattle.dxr.specs.declared.chunk.Stored.{Stored}
 use Rattle.dxr.specs.declared.main_word.MainWord.{MainWord}
 use Rattle.dxr.proofs.Fills.{sets_more, sets-front, filled-part}
 use Rattle.dxr.proofs.DxrTable.{fit, stands, main_length}
 use Rattle.ranges.proofs.Rows.{ranges-length}
 use Rattle.dxr.proofs.Chunks.{chunk_few}
-use Rattle.dxr.proofs.Entries.{main-number, main-many}
+use Rattle.dxr.proofs.Entries.{main-many}
 use Rattle.dxr.proofs.Parts.{alone-words, alone-main}
 
 -- chunk c is next: range `from` starts at or before its first address, and those behind it start there or later
@@ -205,14 +206,14 @@ module _ {W S : ℕ} {ss hs ms₀ ws₀ ms ws : List ℕ} {from used c : ℕ} (h
           room = rw is.entries (omega (arith, h.room, here.count, words-length));
         }
 
-    module _ (m : MainWord) {ws' : List ℕ} (put : IsStored (entries_in n.chunk) used ws m ws') where
-      pub written-turn : WrittenTo W S ss hs ms₀ ws₀ (set (put_mid c (n.number - c) ms part) n.number (word_of m)) ws' n.last (used + words_of m) (n.number + 1)
+    module _ {s : Stored} {ws' : List ℕ} (put : IsStored (entries_in n.chunk) used ws s ws') where
+      pub written-turn : WrittenTo W S ss hs ms₀ ws₀ (set (put_mid c (n.number - c) ms part) n.number s.word) ws' n.last s.used (n.number + 1)
       written-turn = record {
         reached = reached-turn h.reached is;
         size = h.size;
         room = h.room;
-        count = rw (main-many _ used m put.main, next_words h.reached is, length-append, ← here.count);
-        main = rw (here.main, main-number _ used m put.main, next_main h.reached is here.count)
+        count = rw (put.next, next_words h.reached is, length-append, ← here.count);
+        main = rw (here.main, put.main, next_main h.reached is here.count)
             (sets_more ms₀ (main_words W S (ranges ss hs) n.number) _ (sym (main_length W S (ranges ss hs) n.number)));
         words = put.row
             ∙ rw (here.words, next_words h.reached is) (sets_more ws₀ (all_words W S (ranges ss hs) n.number) (words (entries_in n.chunk)) here.count);

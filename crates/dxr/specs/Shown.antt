@@ -7,13 +7,14 @@ use Rattle.route.specs.Refusals.{value}
 use Rattle.route.specs.Shown.{hop_number, shown}
 use Rattle.ranges.specs.Ranges.{Range, range, ranges}
 use Rattle.ranges.specs.Loops.{below}
-use Rattle.dxr.specs.Dxr.{chunk_size, all_short, chunk, words, pointer, part_length, chunk_fine, entries_fine}
+use Rattle.dxr.specs.Dxr.{chunk_size, all_short, chunk, words, pointer, main_word, part_length, chunk_fine, entries_fine}
 use Rattle.dxr.specs.Loops.{LastAt}
 use Rattle.dxr.specs.Chunks.{entries_in}
 use Rattle.dxr.specs.declared.main_word.Form.{Form}
 use Rattle.dxr.specs.declared.main_word.Form.TheVariants.{Long, Short}
 use Rattle.dxr.specs.declared.main_word.MainWord.{MainWord}
 use Rattle.dxr.specs.declared.main_word.MainWord.TheVariants.{Direct, Pointer}
+use Rattle.dxr.specs.declared.chunk.Stored.{Stored}
 use Rattle.dxr.specs.declared.build.Next.{Next}
 use Rattle.dxr.specs.declared.lookup.Pass.{Pass}
 
@@ -64,9 +65,10 @@ abbrev pub IsMain : List Range → ℕ → MainWord → Type 0
 IsMain es position (Direct h) = (length es ≡ 1) × (hop_number h ≡ (get_or es 0 (range 0 0)).hop)
 IsMain es position (Pointer p) = (1 < length es) × (is_short_form p.form ≡ all_short es) × (p.count ≡ length es) × (p.position ≡ position)
 
--- the entries es are stored behind the words that were used: their main word, and the row of words
-pub record IsStored (es : List Range) (used : ℕ) (ws : List ℕ) (m : MainWord) (ws' : List ℕ) : Type 0 where
-  pub main : IsMain es used m
+-- the entries es are stored behind the words that were used: their main word, how many words are used then, and the row of words
+pub record IsStored (es : List Range) (used : ℕ) (ws : List ℕ) (s : Stored) (ws' : List ℕ) : Type 0 where
+  pub main : s.word ≡ main_word es used
+  pub next : s.used ≡ used + length (words es)
   pub row : ws' ≡ sets ws used (words es)
 
 -- the pass over a first entry with this start, and over one more behind those of p

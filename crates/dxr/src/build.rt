@@ -100,8 +100,8 @@ impl<'a> Table<'a> {
             let place = next.number as usize;
             main[done..place].fill(self.rows.hops[from]);
             let stored = next.chunk.store(words, used);
-            main[place] = stored.word();
-            used += stored.words();
+            main[place] = stored.word;
+            used = stored.used;
             from = next.last;
             done = place + 1;
         }

@@ -14,9 +14,17 @@ use crate::rows::Rows;
 use ranges::words::Range;
 use route::Hop;
 
+// A chunk as it is stored: its main word, which is the hop where there is one entry, and how many
+// range words are used then.
+#[derive(Clone, Copy)]
+pub struct Stored {
+    pub word: u32,
+    pub used: usize,
+}
+
 // A chunk: its ranges, and its first address.
 #[derive(Clone, Copy)]
-pub struct Chunk<'a> {
+pub(crate) struct Chunk<'a> {
     pub rows: Rows<'a>,
     pub base: u32,
 }
@@ -121,15 +129,18 @@ impl<'a> Chunk<'a> {
     }
 
     // Stores the chunk: its range words go behind those that are used, in the row that C lends.
-    pub(crate) fn store(&self, words: &mut [u32], used: usize) -> MainWord
+    pub(crate) fn store(&self, words: &mut [u32], used: usize) -> Stored
         requires { HasRoom (entries_in self.now) words.old used }
         ensures { IsStored (entries_in self.now) used words.old result words.new }
     {
         let main = self.main_word(used);
+        let stored = Stored {
+            word: main.word(),
+            used: used + main.words(),
+        };
         if let MainWord::Pointer(p) = main {
-            let end = used + p.form.words(p.count);
-            self.put_words(p.form, &mut words[used..end]);
+            self.put_words(p.form, &mut words[used..stored.used]);
         }
-        main
+        stored
     }
 }

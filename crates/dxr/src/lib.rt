@@ -6,7 +6,7 @@
 #![tactic(auto)]
 
 pub mod build;
-mod chunk;
+pub mod chunk;
 pub mod lookup;
 mod main_word;
 mod rows;

@@ -19,6 +19,7 @@ use Rattle.history.specs.Stages.{is_done, run, step_text, step_to, steps_left}
 use Rattle.history.specs.Fills.{printed, part, next_line, room_fault, printed_to, refused_fill, fill_with, IsFill}
 use Rattle.history.specs.Steps.{Ready, IsStep}
 use Rattle.history.specs.declared.Stage.{Stage}
+use Rattle.history.specs.declared.step.Stepped.{Stepped}
 use Rattle.history.proofs.Stages.{step-size, step-ready, step_falls}
 use Rattle.history.proofs.NextLine.{too_short, long-enough}
 
@@ -94,9 +95,9 @@ module _ {bs : List ℕ} {s₀ : Stage} {t₀ : Rows} {buffer₀ : List ℕ} {s 
   pub lent : length (mid_of at (length buffer - at) buffer) ≡ length buffer - at
   lent = rw (part-tail at buffer) (length-drop at buffer)
 
-  pub filling-turn : {n : ℕ} {s' : Stage} {t' : Rows} {part' : List ℕ} → is_done s ≡ false → length (step_text bs s t) ≤ length buffer - at →
-      IsStep bs s t (mid_of at (length buffer - at) buffer) n s' t' part' →
-      Filling bs s₀ t₀ buffer₀ s' t' (put_mid at (length buffer - at) buffer part') (at + n)
+  pub filling-turn : {r : Stepped} {t' : Rows} {part' : List ℕ} → is_done s ≡ false → length (step_text bs s t) ≤ length buffer - at →
+      IsStep bs s t (mid_of at (length buffer - at) buffer) r t' part' →
+      Filling bs s₀ t₀ buffer₀ r.stage t' (put_mid at (length buffer - at) buffer part') (at + r.size)
   filling-turn d l h =
       let h' = rw (part-tail at buffer) at h in
       let e = append_assoc (take at buffer) line rest in
@@ -169,6 +170,6 @@ goes_on_lem true room n e = clash e refl
 goes_on_lem false room n e = (refl, ltb-false room n (not-true (ltb room n) e))
 
 -- a step's size, where its line fits
-pub stepped-fits : {bs : List ℕ} {s : Stage} {t : Rows} {buffer : List ℕ} {n : ℕ} {s' : Stage} {t' : Rows} {buffer' : List ℕ} {room : ℕ} →
-    IsStep bs s t buffer n s' t' buffer' → length (step_text bs s t) ≤ room → n ≤ room
+pub stepped-fits : {bs : List ℕ} {s : Stage} {t : Rows} {buffer : List ℕ} {r : Stepped} {t' : Rows} {buffer' : List ℕ} {room : ℕ} →
+    IsStep bs s t buffer r t' buffer' → length (step_text bs s t) ≤ room → r.size ≤ room
 stepped-fits h l = omega (arith, h.line.counts)

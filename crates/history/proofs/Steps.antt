@@ -13,7 +13,7 @@ use Rattle.route.specs.Refusals.{Answer}
 use Rattle.lines.specs.Lines.{end_line, IsWritten}
 use Rattle.history.specs.Reports.{Rows, rows, slot_text, reported_text}
 use Rattle.history.specs.Stages.{slot_at, step_text}
-use Rattle.history.specs.Steps.{size_of, IsPrinted, Ready, IsStep}
+use Rattle.history.specs.Steps.{size_of, IsPrinted, Ready, stepped, IsStep}
 use Rattle.history.specs.declared.Stage.{Stage}
 use Rattle.history.specs.declared.Stage.TheVariants.{Reading, Listing, Done}
 use Rattle.history.proofs.Updates.{line-printed}
@@ -41,13 +41,13 @@ module _ {bs : List ℕ} {buffer : List ℕ} {size : ℕ} {buffer' : List ℕ} w
   module _ (slot : ℕ) (t : Rows) where
     pub step-slot : slot < length t.addresses → length t.addresses ≡ length t.tags →
         IsPrinted (slot_text slot (cell_at t.addresses t.tags slot)) buffer size buffer' →
-        IsStep bs (Listing (slot_at slot)) t buffer size (Listing (slot_at (slot + 1))) t buffer'
+        IsStep bs (Listing (slot_at slot)) t buffer (stepped size (Listing (slot_at (slot + 1)))) t buffer'
     step-slot l e p =
         let inside = lt-ltb slot (length t.addresses) l in
         record { stage = rw inside; table = refl; line = rw (inside, get_or-cells t.addresses t.tags slot e l) p }
 
     pub step_end : {a : Answer} → length t.addresses ≤ slot → IsWritten end_line buffer a buffer' → size ≡ size_of a →
-        length (step_text bs (Listing (slot_at slot)) t) ≤ length buffer → IsStep bs (Listing (slot_at slot)) t buffer size Done t buffer'
+        length (step_text bs (Listing (slot_at slot)) t) ≤ length buffer → IsStep bs (Listing (slot_at slot)) t buffer (stepped size Done) t buffer'
     step_end l w s f =
         let past = le-ltb slot (length t.addresses) l in
         record { stage = rw past; table = refl; line = line-printed (rw past) w s f }

@@ -6,6 +6,7 @@ use Rattle.records.specs.Records.{Update}
 use Rattle.history.specs.Reports.{Rows, plan_room, plan_of, after_update, reported_text}
 use Rattle.history.specs.Stages.{is_stage_of, step_text, step_to}
 use Rattle.history.specs.declared.Stage.{Stage}
+use Rattle.history.specs.declared.step.Stepped.{Stepped}
 
 -- the bytes that a call wrote, 0 where it was refused
 abbrev pub size_of : Answer → ℕ
@@ -32,8 +33,12 @@ pub record Ready (bs : List ℕ) (s : Stage) (t : Rows) : Type 0 where
   pub equal : length t.addresses ≡ length t.tags
   pub placed : is_stage_of (length bs) s ≡ true
 
+-- what a step answers: its line's bytes, and the stage behind it
+abbrev pub stepped : ℕ → Stage → Stepped
+stepped n s = record { size = n; stage = s }
+
 -- the step from this stage was made: its line's bytes, and the stage and the table behind it
-pub record IsStep (bs : List ℕ) (s : Stage) (t : Rows) (buffer : List ℕ) (size : ℕ) (s' : Stage) (t' : Rows) (buffer' : List ℕ) : Type 0 where
-  pub stage : s' ≡ (step_to bs s t).stage
+pub record IsStep (bs : List ℕ) (s : Stage) (t : Rows) (buffer : List ℕ) (r : Stepped) (t' : Rows) (buffer' : List ℕ) : Type 0 where
+  pub stage : r.stage ≡ (step_to bs s t).stage
   pub table : t' ≡ (step_to bs s t).table
-  pub line : IsPrinted (step_text bs s t) buffer size buffer'
+  pub line : IsPrinted (step_text bs s t) buffer r.size buffer'

@@ -18,8 +18,8 @@ module _ (W x : ℕ) (at : ℕ → Route) (n a : ℕ) (t : List Range) (pos : 0 
 -- of the prefixes open at first, those that are left
 pub record ClosingAt (x : ℕ) (s₀ s : CodeSweep) : Type 0 where
   pub same : SameKeys s₀ s
-  pub fewer : s.opened ≤ s₀.opened
-  pub load : s.made + s.opened ≤ s₀.made + s₀.opened
+  pub fewer : s.at.opened ≤ s₀.at.opened
+  pub load : s.at.made + s.at.opened ≤ s₀.at.made + s₀.at.opened
   pub room : HasRoom s₀
   pub left : closed_by 32 x (sweep_of s) ≡ closed_by 32 x (sweep_of s₀)
 
@@ -30,8 +30,8 @@ pub record SweptTo (keys₀ : List Key) (s : CodeSweep) : Type 0 where
 
 -- the sweep u is gone on to the end of the prefix opened last, and t has closed it
 module _ {x : ℕ} {s₀ s u t : CodeSweep} (h : ClosingAt x s₀ s) (on : SameKeys s u) (off : SameKeys u t) where
-  module _ (opened : (u.opened ≡ s.opened) × (u.made ≤ s.made + 1)) (closed : (t.opened ≡ u.opened - 1) × (t.reached ≡ u.reached) × (t.made ≡ u.made)) where
-    pub closing-turn : 0 < s.opened → {r : Route} → r ≡ key_at s.keys.now (s.opened - 1) → ends_by 32 x r ≡ true →
+  module _ (opened : (u.at.opened ≡ s.at.opened) × (u.at.made ≤ s.at.made + 1)) (closed : (t.at.opened ≡ u.at.opened - 1) × (t.at.reached ≡ u.at.reached) × (t.at.made ≡ u.at.made)) where
+    pub closing-turn : 0 < s.at.opened → {r : Route} → r ≡ key_at s.keys.now (s.at.opened - 1) → ends_by 32 x r ≡ true →
         {y : ℕ} → y ≡ past_end 32 r → sweep_of u ≡ advanced y (sweep_of s) → t.ranges.now ≡ u.ranges.now → ClosingAt x s₀ t
     closing-turn pos is e past go ranges = record {
       same = record { keys = off.keys ∙ on.keys ∙ h.same.keys; read = off.read ∙ on.read ∙ h.same.read; ranges = off.ranges ∙ on.ranges ∙ h.same.ranges };
@@ -39,13 +39,13 @@ module _ {x : ℕ} {s₀ s u t : CodeSweep} (h : ClosingAt x s₀ s) (on : SameK
       load = omega (arith, h.load, opened, closed);
       room = h.room;
       left = rw (off.keys, on.keys, closed.0, closed.1, closed.2, ranges, opened.0)
-          (turn 32 x (key_at s.keys.now) s.opened s.reached (sweep_of s).made pos (sweep_of u) (rw is at e) (rw (past, is) at go))
+          (turn 32 x (key_at s.keys.now) s.at.opened s.at.reached (sweep_of s).made pos (sweep_of u) (rw is at e) (rw (past, is) at go))
           ∙ h.left;
     }
 
 -- a key stored behind those that are open, where the sweep has closed prefixes and gone on to its address
-pub opening-key : (u : CodeSweep) (s : Sweep) (key : Key) → u.opened < length u.keys.now →
+pub opening-key : (u : CodeSweep) (s : Sweep) (key : Key) → u.at.opened < length u.keys.now →
     sweep_of u ≡ advanced (route_in key).address (closed_by 32 (route_in key).address s) →
-    sweep (before (key_at (set u.keys.now u.opened key)) (u.opened + 1)) u.reached (sweep_of u).made ≡ opening 32 s (route_in key)
+    sweep (before (key_at (set u.keys.now u.at.opened key)) (u.at.opened + 1)) u.at.reached (sweep_of u).made ≡ opening 32 s (route_in key)
 opening-key u s key l is =
-    rw (before-set u.keys.now u.opened key l) (ap (λ c. sweep (route_in key ∷ c.opened) c.reached c.made) is)
+    rw (before-set u.keys.now u.at.opened key l) (ap (λ c. sweep (route_in key ∷ c.opened) c.reached c.made) is)

@@ -8,11 +8,11 @@ use Rattle.ranges.specs.declared.sweep.Sweep.{Sweep as CodeSweep}
 
 -- a sweep whose open prefixes are the first of its keys, the last of them opened last, and whose ranges are the first of its row
 abbrev pub sweep_of : CodeSweep → Sweep
-sweep_of s = sweep (before (key_at s.keys.now) s.opened) s.reached (map range_of (take s.made s.ranges.now))
+sweep_of s = sweep (before (key_at s.keys.now) s.at.opened) s.at.reached (map range_of (take s.at.made s.ranges.now))
 
 -- there is room for one range more than the keys that are left and the open prefixes can make
 abbrev pub HasRoom : CodeSweep → Type 0
-HasRoom s = s.made + s.opened + 2 * (length s.keys.now - s.read) < length s.ranges.now
+HasRoom s = s.at.made + s.at.opened + 2 * (length s.keys.now - s.read) < length s.ranges.now
 
 -- the keys, how many are read, and the room for ranges are as they were
 pub record SameKeys (s t : CodeSweep) : Type 0 where

@@ -3,7 +3,7 @@
 
 pub mod build;
 pub mod lookup;
-mod sweep;
+pub mod sweep;
 pub mod words;
 
 use route::Refusal;

@@ -14,8 +14,16 @@ use route::rule::span_of;
 use route::{Hop, Route};
 use std::num::wrapping_add_u32;
 
-// A sweep over keys: how many are read, how many of these prefixes are open, the address up to which
-// ranges are made, and how many there are.
+// Where a sweep is: how many prefixes are open, the address up to which ranges are made, how many
+// are made.
+#[derive(Clone, Copy)]
+pub struct Progress {
+    pub opened: usize,
+    pub reached: u32,
+    pub made: usize,
+}
+
+// A sweep over keys: how many are read, and where it is.
 //
 // These numbers stand beside the rows: a vector in fixed memory has its size in its type, so that the sweep would be made once for
 // each size of the scratch, and the open keys take the front of the row that they are read from.
@@ -24,11 +32,9 @@ pub(crate) struct Sweep<'a> {
     keys: &'a mut [Key],
     ranges: &'a mut [Range],
     read: usize,
-    opened: usize,
-    reached: u32,
-    made: usize,
-    ghost stack: { (opened ≤ read) × (read ≤ length keys.now) },
-    ghost room: { made + opened + 2 * (length keys.now - read) ≤ length ranges.now },
+    at: Progress,
+    ghost stack: { (at.opened ≤ read) × (read ≤ length keys.now) },
+    ghost room: { at.made + at.opened + 2 * (length keys.now - read) ≤ length ranges.now },
 }
 
 // One past the last address of a prefix; past the last address of all it is 0.
@@ -63,21 +69,23 @@ impl<'a> Sweep<'a> {
             keys,
             ranges,
             read: 0,
-            opened: 0,
-            reached: 0,
-            made: 0,
+            at: Progress {
+                opened: 0,
+                reached: 0,
+                made: 0,
+            },
         }
     }
 
     // The route whose prefix was opened last.
     fn last(&self) -> Option<Route>
-        ensures some { IfSome result (λ r. (0 < self.now.opened) × (route_of r ≡ key_at self.now.keys.now (self.now.opened - 1))) }
-        ensures none { IfNone result (self.now.opened ≡ 0) }
+        ensures some { IfSome result (λ r. (0 < self.now.at.opened) × (route_of r ≡ key_at self.now.keys.now (self.now.at.opened - 1))) }
+        ensures none { IfNone result (self.now.at.opened ≡ 0) }
     {
-        if self.opened == 0 {
+        if self.at.opened == 0 {
             return None;
         }
-        Some(Route::from(self.keys[self.opened - 1]))
+        Some(Route::from(self.keys[self.at.opened - 1]))
     }
 
     // The hop of the prefix opened last, none where none is open.
@@ -91,10 +99,10 @@ impl<'a> Sweep<'a> {
     fn ends_with(&self, hop: Option<Hop>) -> bool
         ensures { result ≡ ends_with (sweep_of self.now).made (hop_number hop) }
     {
-        if self.made == 0 {
+        if self.at.made == 0 {
             return false;
         }
-        let last = self.ranges[self.made - 1];
+        let last = self.ranges[self.at.made - 1];
         Hop::number_of(last.hop) == Hop::number_of(hop)
     }
 
@@ -104,15 +112,15 @@ impl<'a> Sweep<'a> {
         requires { HasRoom self.old }
         ensures made { (sweep_of self.new).made ≡ extended (sweep_of self.old) }
         ensures same { SameKeys self.old self.new }
-        ensures rest { (self.new.opened ≡ self.old.opened) × (self.new.reached ≡ self.old.reached) × (self.new.made ≤ self.old.made + 1) }
+        ensures rest { (self.new.at.opened ≡ self.old.at.opened) × (self.new.at.reached ≡ self.old.at.reached) × (self.new.at.made ≤ self.old.at.made + 1) }
     {
         let hop = self.open_hop();
         if !self.ends_with(hop) {
-            self.ranges[self.made] = Range {
-                start: self.reached,
+            self.ranges[self.at.made] = Range {
+                start: self.at.reached,
                 hop,
             };
-            self.made += 1;
+            self.at.made += 1;
         }
     }
 
@@ -121,11 +129,11 @@ impl<'a> Sweep<'a> {
         requires { HasRoom self.old }
         ensures sweep { sweep_of self.new ≡ advanced x (sweep_of self.old) }
         ensures same { SameKeys self.old self.new }
-        ensures rest { (self.new.opened ≡ self.old.opened) × (self.new.made ≤ self.old.made + 1) }
+        ensures rest { (self.new.at.opened ≡ self.old.at.opened) × (self.new.at.made ≤ self.old.at.made + 1) }
     {
-        if self.reached < x {
+        if self.at.reached < x {
             self.extend();
-            self.reached = x;
+            self.at.reached = x;
         }
     }
 
@@ -134,14 +142,14 @@ impl<'a> Sweep<'a> {
         requires { HasRoom self.old }
         ensures sweep { sweep_of self.new ≡ closed_by 32 x (sweep_of self.old) }
         ensures same { SameKeys self.old self.new }
-        ensures rest { (self.new.opened ≤ self.old.opened) × (self.new.made + self.new.opened ≤ self.old.made + self.old.opened) }
+        ensures rest { (self.new.at.opened ≤ self.old.at.opened) × (self.new.at.made + self.new.at.opened ≤ self.old.at.made + self.old.at.opened) }
     {
         while let Some(r) = self.last() {
             if !ends_by(r, x) {
                 return;
             }
             self.advance(past_end(r));
-            self.opened -= 1;
+            self.at.opened -= 1;
         }
     }
 
@@ -158,8 +166,8 @@ impl<'a> Sweep<'a> {
         self.close_by(next);
         self.advance(next);
         self.read += 1;
-        self.keys[self.opened] = key;
-        self.opened += 1;
+        self.keys[self.at.opened] = key;
+        self.at.opened += 1;
     }
 
     // The merged ranges of the keys' prefixes. The keys are sorted.
@@ -172,7 +180,7 @@ impl<'a> Sweep<'a> {
         }
         self.close_by(u32::MAX);
         self.extend();
-        let Sweep { ranges, made, .. } = self;
-        &ranges[..made]
+        let Sweep { ranges, at, .. } = self;
+        &ranges[..at.made]
     }
 }

@@ -8,8 +8,7 @@ store-stored-requires c = written-room c.loop-next.invariant c.in-Some.ensures (
 
 pub loop-next-preserved : goal.loop-next-preserved
 loop-next-preserved c =
-    rw (c.word.ensures, c.words-used.ensures)
-    (written-turn c.loop-next.invariant c.in-Some.ensures (c.fill.ensures.after (λ y h. h)) c.store-stored.result c.store-stored.ensures)
+    written-turn c.loop-next.invariant c.in-Some.ensures (c.fill.ensures.after (λ y h. h)) c.store-stored.ensures
 
 pub returns-clause-main_after : goal.returns-clause-main_after
 returns-clause-main_after c =

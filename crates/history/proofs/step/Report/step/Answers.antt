@@ -1,13 +1,14 @@
--- A record leads behind itself with the table of its update; a slot has its line.
+-- A record leads to the stage behind it; a slot has its line.
 use Rattle.history.specs.Reports.{rows}
-use Rattle.history.proofs.Stages.{reading-ready}
+use Rattle.history.proofs.Stages.{step-ready}
 use Rattle.history.proofs.Steps.{slot-fits, step-slot}
 use Rattle.history.proofs.step.Report.step.Goals as goal
 
-pub invariant_of-self-in-Ok-Some : goal.invariant_of-self-in-Ok-Some
-invariant_of-self-in-Ok-Some c = record {
-  ready = reading-ready (rw c.in-Reading.is at c.args.self.now.ready) (rw c.in-Ok-Some.field-0-is at c.in-Ok-Some.ensures) c.report_update-size.ensures.table;
-}
+pub invariant_of-self-in-Reading : goal.invariant_of-self-in-Reading
+invariant_of-self-in-Reading c =
+    let s = c.args.self.now in
+    let h = c.record_step-made.ensures in
+    record { ready = rw (h.unchanged.1, h.step.stage, h.step.table) (step-ready s.bytes.now s.stage (rows s.addresses.now s.tags.now) s.ready) }
 
 pub slot_line-requires : goal.slot_line-requires
 slot_line-requires c =

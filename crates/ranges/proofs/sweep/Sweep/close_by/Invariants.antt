@@ -6,4 +6,4 @@ abbrev pub invariant-loop-r : goal.invariant-loop-r
 invariant-loop-r l = ClosingAt l.x l.initial.self l.self
 
 abbrev pub decreases-loop-r : goal.decreases-loop-r
-decreases-loop-r l = l.self.opened
+decreases-loop-r l = l.self.at.opened

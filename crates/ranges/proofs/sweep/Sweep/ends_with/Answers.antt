@@ -7,4 +7,4 @@ use Rattle.ranges.proofs.sweep.Sweep.ends_with.Goals as goal
 pub returns : goal.returns
 returns c =
     let s = c.args.self.now in
-    rw (c.number_of.ensures, c.number_of-2.ensures) (sym (ends_with-front s.made s.ranges.now _ (hop_number c.args.hop) (search rules) (search rules)))
+    rw (c.number_of.ensures, c.number_of-2.ensures) (sym (ends_with-front s.at.made s.ranges.now _ (hop_number c.args.hop) (search rules) (search rules)))
