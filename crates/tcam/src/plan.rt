@@ -4,7 +4,7 @@
 // slot. Sets and removals, above the pool and below it, are then one chain of copies: for each length
 // between the prefix's and the pool, in turn, its edge entry goes to the open slot, and its own slot is
 // open next. The writes are counted first, so that a row without room for them is left as it was.
-ghost use Rattle.std.specs.Prelude.{◌≡◌, ℕ, ◌+◌, ◌*◌, ◌<◌, ◌≤◌, [], ◌∷◌, length, if◌then◌else◌, nat_eq, slice_index, IfSome};
+ghost use Rattle.std.specs.Prelude.{◌≡◌, ℕ, ◌+◌, ◌*◌, ◌<◌, ◌≤◌, [], ◌∷◌, length, replicate, if◌then◌else◌, nat_eq, slice_index, IfSome, None};
 ghost use Rattle.std.proofs.Math.Option.{none};
 ghost use Rattle.std.proofs.Math.ListN;
 ghost use Rattle.std.proofs.lemmas.List.Edits.{sets};
@@ -105,18 +105,18 @@ fn visit(up: bool, m: usize, k: usize) -> Slot
     if up { Slot(m - 1 - k) } else { Slot(k) }
 }
 
-// Every length's edge slot, and the pool's, in one pass: the first ones, or else the last ones.
-fn find_edges(table: &Table, up: bool) -> [Option<Slot>; GROUPS]
-    requires { slot_fault 32 0 (cells_of table.now) ≡ fine }
-    ensures { EdgesOf 32 up (cells_of table.now) result }
+// Every length's edge slot, and the pool's, in one pass: the first ones, or else the last ones. They go to a row of
+// the caller's: an array that is answered, and then a part of a chain, would be copied by a call of `memcpy`.
+fn find_edges(table: &Table, up: bool, edges: &mut [Option<Slot>; GROUPS])
+    requires keeps { slot_fault 32 0 (cells_of table.now) ≡ fine }
+    requires none { edges.old ≡ replicate 34 None }
+    ensures { EdgesOf 32 up (cells_of table.now) edges.new }
 {
     let m = table.len();
-    let mut edges = [None; GROUPS];
     for k in 0..m {
         let s = visit(up, m, k);
         edges[table.cell(s).group().0] = Some(s);
     }
-    edges
 }
 
 // Write w of a plan, which is a row that C lends.
@@ -131,30 +131,37 @@ fn put_write(plan: &mut [u32], w: usize, s: Slot, c: Cell)
 }
 
 // The lengths between a prefix's and the pool, in turn, and the edge slots of the table.
-#[derive(Drop)]
-struct Chain<'a> {
+#[derive(Clone, Copy)]
+struct Chain<'a, 'e> {
     table: Table<'a>,
     lengths: Lengths,
-    edges: [Option<Slot>; GROUPS],
-    ghost edges_of: { EdgesOf 32 lengths.up (cells_of table) edges },
+    edges: &'e [Option<Slot>; GROUPS],
+    ghost edges_of: { EdgesOf 32 lengths.up (cells_of table) edges.now },
 }
 
 // That the length is at most 32 and that the table keeps S1 stand at the functions that make a chain: both were tested
 // by their callers, and a type for each would be made and taken apart in the next call.
-impl<'a> Chain<'a> {
+impl<'a, 'e> Chain<'a, 'e> {
     ghost use Rattle.tcam.specs.InTurn.{lengths_of, chain_of};
 
-    // The chain between length n and the pool.
-    fn to(table: &Table<'a>, up: bool, n: Length) -> Chain<'a>
-        requires { (slot_fault 32 0 (cells_of table.now) ≡ fine) × (n.0 ≤ 32) }
+    // The chain between length n and the pool, with a row for the edge slots.
+    fn to(
+        table: &Table<'a>,
+        up: bool,
+        n: Length,
+        edges: &'e mut [Option<Slot>; GROUPS],
+    ) -> Chain<'a, 'e>
+        requires keeps { (slot_fault 32 0 (cells_of table.now) ≡ fine) × (n.0 ≤ 32) }
+        requires none { edges.old ≡ replicate 34 None }
         ensures table { (result.table.addresses.now ≡ table.now.addresses.now) × (result.table.tags.now ≡ table.now.tags.now) }
         ensures lengths { lengths_of result.lengths ≡ lengths_to 32 result.lengths.up n.0 }
         ensures up { result.lengths.up ≡ up }
     {
+        find_edges(table, up, edges);
         Chain {
             table: *table,
             lengths: Lengths::to(up, n),
-            edges: find_edges(table, up),
+            edges: &*edges,
         }
     }
 
@@ -245,7 +252,8 @@ fn insert(table: &Table, n: Length, c: Cell, plan: &mut [u32]) -> Result<usize, 
     requires { (slot_fault 32 0 (cells_of table.now) ≡ fine) × (n.0 ≤ 32) }
     ensures { IsPlanned (set_at 32 (cells_of table.now) n.0 (cell_of c) (length plan.old) none) plan.old (counted result) plan.new }
 {
-    let chain = Chain::to(table, Length(16) <= n, n);
+    let mut edges = [None; GROUPS];
+    let chain = Chain::to(table, Length(16) <= n, n, &mut edges);
     match chain.pool() {
         None => Err(Refusal::Full),
         Some(s) => chain.plan(s, c, plan),
@@ -272,7 +280,8 @@ pub(crate) fn erase(table: &Table, n: Length, s: Slot, plan: &mut [u32]) -> Resu
     requires { (slot_fault 32 0 (cells_of table.now) ≡ fine) × (n.0 ≤ 32) × (s.0 < length table.now.addresses.now) }
     ensures { IsPlanned (with_room (length plan.old) fine (remove_present 32 (cells_of table.now) n.0 s.0)) plan.old (counted result) plan.new }
 {
-    let chain = Chain::to(table, n < Length(16), n);
+    let mut edges = [None; GROUPS];
+    let chain = Chain::to(table, n < Length(16), n, &mut edges);
     chain.plan_gap(s, chain.edge(n).unwrap_or(s), plan)
 }
 

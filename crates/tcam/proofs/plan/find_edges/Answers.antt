@@ -4,7 +4,7 @@ use Rattle.tcam.proofs.Edges.{edges-start, edges-turn, edges-end, group-below}
 use Rattle.tcam.proofs.plan.find_edges.Goals as goal
 
 pub loop-k-init : goal.loop-k-init
-loop-k-init c = edges-start c.args.table.now.equal c.requires
+loop-k-init c = rw c.requires.none (edges-start c.args.table.now.equal c.requires.keeps)
 
 pub bounds-edges-group : goal.bounds-edges-group
 bounds-edges-group c =
