@@ -192,8 +192,10 @@ impl<'a> Here<'a> {
     }
 }
 
-// Refusal 7 of an update, with a filter of so many words, which is cleared at every call. A turn may pass
-// several free slots, so the loop is no `for`.
+// Refusal 7 of an update, with a filter of so many words, which is cleared at every call. Each size is a
+// function of its own in the compiled code, so that its filter is in no frame of a table of another size. A
+// turn may pass several free slots, so the loop is no `for`.
+#[inline(never)]
 fn check_with<const WORDS: usize>(table: &Table) -> Result<(), Refusal>
     requires { (0 < WORDS) × (WORDS ≤ 4096) }
     ensures { verdict_of result ≡ image_fault 32 0 [] (cells_of table.now) }
@@ -225,9 +227,7 @@ fn check_with<const WORDS: usize>(table: &Table) -> Result<(), Refusal>
     Ok(())
 }
 
-// The same with a larger filter: a function of its own in the compiled code, so that its filters are in no
-// frame of a short table.
-#[inline(never)]
+// The same with a larger filter.
 fn long_check(table: &Table) -> Result<(), Refusal>
     ensures { verdict_of result ≡ image_fault 32 0 [] (cells_of table.now) }
 {
