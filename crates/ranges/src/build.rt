@@ -14,6 +14,7 @@ ghost use Rattle.ranges.specs.Keys.{keys_of};
 ghost use Rattle.ranges.specs.Loops.{Accepted};
 
 use crate::Built;
+use crate::shuffle::shuffle;
 use crate::sweep::Sweep;
 use crate::words::{Key, Range};
 use route::list::List;
@@ -56,6 +57,7 @@ fn build_in(
     ensures { IsBuilt 32 list.now.addresses.now list.now.lengths.now list.now.hops.now starts.old range_hops.old (counted result) starts.new range_hops.new }
 {
     pack(list, keys);
+    shuffle(keys);
     keys.sort_unstable();
     let made = Sweep::new(keys, ranges).run();
     if (starts.len() < made.len()) | (range_hops.len() < made.len()) {

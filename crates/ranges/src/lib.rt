@@ -3,6 +3,7 @@
 
 pub mod build;
 pub mod lookup;
+mod shuffle;
 pub mod sweep;
 pub mod words;
 

@@ -1,5 +1,6 @@
 -- The keys of the list, sorted and swept over, make its merged ranges; the rows are tested for room and written.
 use Rattle.std.proofs.Common.{◌≡◌, map}
+use Rattle.std.proofs.lemmas.List.Sorted.{IsPermutation-trans}
 use Rattle.route.specs.Entries.{routes_of}
 use Rattle.ranges.specs.Ranges.{ranges_of}
 use Rattle.ranges.specs.Shown.{range_of}
@@ -9,7 +10,7 @@ use Rattle.ranges.proofs.build.build_in.Goals as goal
 use Rattle.ranges.proofs.build.build_in.Goals.{After-run-made}
 
 made : (c : After-run-made) → map range_of c.run-made.result.now ≡ ranges_of 32 (routes_of c.args.list.now)
-made c = list-made c.requires.accepted c.pack.ensures c.sort_unstable.ensures.permutation c.sort_unstable.ensures.sorted c.new.ensures.keys c.run-made.ensures
+made c = list-made c.requires.accepted c.pack.ensures (IsPermutation-trans _ _ _ c.shuffle.ensures c.sort_unstable.ensures.permutation) c.sort_unstable.ensures.sorted c.new.ensures.keys c.run-made.ensures
 
 pub returns-then-starts-made : goal.returns-then-starts-made
 returns-then-starts-made c =
